@@ -1,0 +1,9 @@
+pub mod Symbol
+pub mod Rule
+pub mod Derivation
+pub mod Automaton
+pub mod Closure
+pub mod Useful
+pub mod Growing
+pub mod Counting
+pub mod Inductive
