@@ -1,10 +1,16 @@
 -- Finite automata: sets of transitions, and the strings that lead from one state to another. Assumes nothing.
+use mathlib.Core.Path.{_≡_}
 use Prim.Native.Nat.{ℕ, _<_}
+use mathlib.Core.Bool.{Bool, true}
 use mathlib.Core.List.{List, [], _∷_}
 
 -- a set of transitions (q, X, r)
 abbrev pub Transitions : Type 1
 Transitions = ℕ → ℕ → ℕ → Type 0
+
+-- the set of the transitions that pass a test
+abbrev pub Holds : (ℕ → ℕ → ℕ → Bool) → Transitions
+Holds d q X r = d q X r ≡ true
 
 -- 002 section 2, the transition relation q -w-> r of an automaton
 pub data Path (D : Transitions) : ℕ → List ℕ → ℕ → Type 0 where

@@ -7,3 +7,4 @@ pub mod Useful
 pub mod Growing
 pub mod Counting
 pub mod Inductive
+pub mod PaperTheorems

@@ -2,6 +2,8 @@
 ghost use mathlib.Core.Path.{_≡_};
 ghost use Rattle.grammar.specs.Symbol.{classOf};
 
+pub mod theorems;
+
 // What a byte stands for in a rule or a form.
 pub enum SymbolClass {
     Variable,

@@ -1,0 +1,11 @@
+pub mod Strings
+pub mod Derivations
+pub mod Backwards
+pub mod Paths
+pub mod Smallest
+pub mod ClosureGrows
+pub mod PreStar
+pub mod Productive
+pub mod InContext
+pub mod UsefulIsBoth
+pub mod Growth

@@ -1,0 +1,42 @@
+-- A symbol is useful if and only if it is productive and in a terminal context: each symbol of a form that derives a terminal string
+-- generates, those around X among them. Assumes nothing.
+use Prim.Native.Nat.{ℕ}
+use mathlib.Core.Logic.{_↔_}
+use mathlib.Core.List.{_∷_, _++_}
+use Rattle.grammar.specs.Rule.{Rule, Rules}
+use Rattle.grammar.specs.Useful.{Productive, InContext, Useful}
+use Rattle.grammar.specs.Inductive.{Generating}
+use Rattle.grammar.proofs.Strings.{All, cons, all-left, all-right}
+use Rattle.grammar.proofs.Derivations.{derives-context, derives-grows}
+use Rattle.grammar.proofs.Productive.{terminals-append, derives-generate, generating-derives}
+use Rattle.grammar.proofs.InContext.{around-reached, reached-in-context}
+
+module _ (R : Rules) (S X : ℕ) where
+  pub useful-both : Useful R S X → Productive R X × InContext R S X
+  unfolding Useful
+  useful-both u =
+      let g = derives-generate (u .2) (u .3) (u .5) in
+      both (all-left (u .0) (X ∷ u .1) g) (all-right (u .0) g)
+    where
+      both : All (Generating R) (u .0) → All (Generating R) (X ∷ u .1) → Productive R X × InContext R S X
+      both g (cons x h) = (generating-derives x, reached-in-context (around-reached X g h (u .4)))
+
+  pub both-useful : Productive R X → InContext R S X → Useful R S X
+  unfolding Useful Productive InContext
+  both-useful p c =
+      let v = c .0 in
+      let w = c .1 in
+      ( v
+      , w
+      , v ++ (p .0 ++ w)
+      , terminals-append v (p .0 ++ w) (c .2) (terminals-append (p .0) w (p .1) (c .3))
+      , c .4
+      , derives-context v w (p .2)
+      )
+
+  pub useful-is-both : Useful R S X ↔ (Productive R X × InContext R S X)
+  useful-is-both = (useful-both, λ b. both-useful (b .0) (b .1))
+
+pub useful-grows : (R R′ : Rules) (S X : ℕ) → ((ρ : Rule) → R ρ → R′ ρ) → Useful R S X → Useful R′ S X
+unfolding Useful
+useful-grows R R′ S X rules u = (u .0, u .1, u .2, u .3, derives-grows rules (u .4), derives-grows rules (u .5))
