@@ -1,6 +1,6 @@
 -- Small laws of tests, pairs and sums that every crate needs: case analysis on a test that keeps the equation. Assumes nothing.
 use mathlib.Core.Path.{_≡_, refl, sym, _∙_}
-use mathlib.Core.Logic.{_⊎_, inl, inr}
+use mathlib.Core.Logic.{_⊎_, inl, inr, _↔_}
 use mathlib.Core.Bool.{Bool, true, false, _&&_, _||_, true≢false, false≢true}
 
 -- a proof by the two values of a test
@@ -20,6 +20,10 @@ pair-path p q = λ i. (p i, q i)
 -- no test is true and false
 pub true-and-false : {P : Type 0} {b : Bool} → b ≡ true → b ≡ false → P
 true-and-false p q = absurd (true≢false (sym p ∙ q))
+
+-- what a test decides does not hold where the test fails
+pub refuted : {P : Type 0} {b : Bool} → (b ≡ true) ↔ P → b ≡ false → P → ⊥
+refuted exact e p = true-and-false (exact .1 p) e
 
 -- a test that is not true is false, and the other way round
 pub not-true-false : (b : Bool) → (b ≡ true → ⊥) → b ≡ false
@@ -47,6 +51,9 @@ and-right false b e = absurd (false≢true e)
 pub and-both : (a b : Bool) → a ≡ true → b ≡ true → (a && b) ≡ true
 and-both true b p q = q
 and-both false b p q = p
+
+pub and-split : (a b : Bool) → ((a && b) ≡ true) ↔ ((a ≡ true) × (b ≡ true))
+and-split a b = (λ e. (and-left a b e, and-right a b e), λ p. and-both a b (p .0) (p .1))
 
 pub and-false-left : (a b : Bool) → a ≡ false → (a && b) ≡ false
 and-false-left true b p = absurd (true≢false p)

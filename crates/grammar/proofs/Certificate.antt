@@ -1,5 +1,5 @@
 -- What certificates prove, on one page: lists that pass the tests are exactly the smallest closed set, with its counts, and exactly the
--- generating, reached and useful symbols; a cycle or a rank decides the rest. Assumes nothing.
+-- generating and the reached symbols. Assumes nothing.
 use mathlib.Core.Path.{_≡_}
 use mathlib.Core.Logic.{_↔_}
 use mathlib.Core.Bool.{Bool, true, false, _&&_}
@@ -10,9 +10,8 @@ use Rattle.grammar.specs.Rule.{Rule, Among}
 use Rattle.grammar.specs.Automaton.{Transitions}
 use Rattle.grammar.specs.Closure.{Closure}
 use Rattle.grammar.specs.Counting.{HasCount, meetings}
-use Rattle.grammar.specs.Useful.{Useful}
-use Rattle.grammar.specs.Inductive.{Generating, Reached, PairCycle}
-use Rattle.grammar.proofs.Basics.{and-left, and-right, and-both, true-and-false}
+use Rattle.grammar.specs.Inductive.{Generating, Reached}
+use Rattle.grammar.proofs.Basics.{and-left, and-right, refuted}
 use Rattle.grammar.proofs.Meetings.{Test, PairsIn}
 use Rattle.grammar.proofs.CertificateTests.{Triple, has, hasSymbol}
 use Rattle.grammar.proofs.CertificateClosure.{Line, transition, transitions, Given, certified, certified-closure}
@@ -20,7 +19,6 @@ use Rattle.grammar.proofs.CertificateCounting.{Places, countable, certi
 use Rattle.grammar.proofs.CertificateMeetings.{joins, deciding-meetings}
 use Rattle.grammar.proofs.CertificateSymbols.{generates, certifiedGenerating, certified-generating}
 use Rattle.grammar.proofs.CertificateReached.{certifiedReached, certified-reached}
-use Rattle.grammar.proofs.CertificateCycle.{certifiedRank, certified-no-cycle, certifiedCycle, certified-cycle}
 
 -- the test of a list of transitions with their ways
 unfoldable pub closureCertified : (rs : List Rule) (gs : List Triple) (s : ℕ) (ls : List Line) → Bool
@@ -37,7 +35,7 @@ module _ (rs : List Rule) (D : Transitions) (gs : List Triple) (s : ℕ) (g : Gi
   closure-has q X r = closure-exact q X r .0
 
   pub closure-lacks : (q X r : ℕ) → has (transitions ls) q X r ≡ false → Closure (Among rs) D s q X r → ⊥
-  closure-lacks q X r e c = true-and-false (closure-exact q X r .1 c) e
+  closure-lacks q X r = refuted (closure-exact q X r)
 
   lines-countable : countable 32 (transitions ls) ≡ true
   unfolding closureCertified
@@ -71,11 +69,6 @@ unfoldable pub symbolsCertified : (rs : List Rule) (S : ℕ) (gen reach : List �
 unfolding generates certifiedGenerating certifiedReached
 symbolsCertified rs S gen reach = certifiedGenerating rs gen && certifiedReached rs S (generates gen) reach
 
--- useful by the two lists
-unfoldable pub useful : (gen reach : List ℕ) → ℕ → Bool
-unfolding generates hasSymbol
-useful gen reach X = generates gen X && hasSymbol reach X
-
 module _ (rs : List Rule) (S : ℕ) (gen reach : List ℕ) (h : symbolsCertified rs S gen reach ≡ true) where
   pub generating-exact : (X : ℕ) → (generates gen X ≡ true) ↔ Generating (Among rs) X
   unfolding symbolsCertified
@@ -85,27 +78,3 @@ module _ (rs : List Rule) (S : ℕ) (gen reach : List ℕ) (h : symbolsCertified
   unfolding symbolsCertified
   reached-exact =
       certified-reached rs S (generates gen) generating-exact reach (and-right (certifiedGenerating rs gen) (certifiedReached rs S (generates gen) reach) h)
-
-  -- with 003's theorem on useful symbols
-  module _ (theorem : (X : ℕ) → Useful (Among rs) S X ↔ (Generating (Among rs) X × Reached (Among rs) S X)) where
-    pub useful-exact : (X : ℕ) → (useful gen reach X ≡ true) ↔ Useful (Among rs) S X
-    unfolding useful
-    useful-exact X = (
-      λ e.
-          theorem X .1 (
-            generating-exact X .0 (and-left (generates gen X) (hasSymbol reach X) e),
-            reached-exact X .0 (and-right (generates gen X) (hasSymbol reach X) e),
-          ),
-      λ u.
-          and-both
-          (generates gen X)
-          (hasSymbol reach X)
-          (generating-exact X .1 (theorem X .0 u .0))
-          (reached-exact X .1 (theorem X .0 u .1)),
-    )
-
-    pub has-cycle : (A X : ℕ) (zs : List ℕ) → certifiedCycle (useful gen reach) rs A X zs ≡ true → PairCycle (Among rs) S
-    has-cycle = certified-cycle (useful gen reach) rs S (λ X. useful-exact X .0)
-
-    pub has-no-cycle : (rank : ℕ → ℕ) → certifiedRank (useful gen reach) rs rank ≡ true → PairCycle (Among rs) S → ⊥
-    has-no-cycle = certified-no-cycle (useful gen reach) rs S (λ X. useful-exact X .1)

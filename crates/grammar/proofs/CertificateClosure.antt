@@ -10,6 +10,7 @@ use borrow.Author.Tests.{eqb-true, eq-eqb, ltb-true}
 use Rattle.grammar.specs.Rule.{Rule, Among, empty, unit, pair}
 use Rattle.grammar.specs.Automaton.{Transitions}
 use Rattle.grammar.specs.Closure.{Closure}
+use Rattle.grammar.specs.PaperExamples.{Listed}
 use Rattle.grammar.proofs.Basics.{and-left, and-right, and-both}
 use Rattle.grammar.proofs.CertificateTests.{Triple, every, every-member, every-below, every-below-member, implies, implies-true, has, has-member, hasRule, has-rule-member}
 
@@ -68,6 +69,9 @@ certified rs gs s ls = grounded rs gs s ls && saturated rs gs s (transitions ls)
 pub record Given (D : Transitions) (gs : List Triple) : Type 0 where
   pub listed : (q X r : ℕ) → D q X r → List·Memᴰ {A = Triple} (q, X, r) gs
   pub meant : (q X r : ℕ) → List·Memᴰ {A = Triple} (q, X, r) gs → D q X r
+
+pub itself : (gs : List Triple) → Given (Listed gs) gs
+itself gs = record { listed = λ q X r m. m; meant = λ q X r m. m }
 
 module _ (rs : List Rule) (D : Transitions) (gs : List Triple) (s : ℕ) (g : Given D gs) where
   justified-sound : (ts : List Triple) → ((q X r : ℕ) → has ts q X r ≡ true → Closure (Among rs) D s q X r) → (q A r : ℕ) (w : Way) →

@@ -1,33 +1,26 @@
--- The checker at work: 002 section 3's job (the report's), 001's grammar on the chain baabab, the two ε jobs of 01, and 003's examples 25.5
--- and 25.6. The prover computes each test. Assumes nothing.
+-- The checker at work on grammars of 01: 001's grammar on the chain baabab, the two ε jobs, and S → AB with A → a alone. The prover computes
+-- each test. Assumes nothing.
 use mathlib.Core.Path.{_≡_, refl}
 use mathlib.Core.Logic.{_↔_}
 use mathlib.Core.Bool.{true, not}
-use mathlib.Core.List.{List, [], _∷_, List·Memᴰ}
+use mathlib.Core.List.{List, [], _∷_}
 use Prim.Native.Nat.{ℕ, _<_}
-use lib.ListN.{getD}
+use lib.ListN.{length}
 use borrow.Author.Tests.{not-true}
 use Rattle.grammar.specs.Rule.{Rule, Among, empty, unit, pair}
 use Rattle.grammar.specs.Automaton.{Transitions}
 use Rattle.grammar.specs.Closure.{Closure}
 use Rattle.grammar.specs.Counting.{HasCount, meetings}
-use Rattle.grammar.specs.Useful.{Useful}
-use Rattle.grammar.specs.Inductive.{Generating, Reached, PairCycle}
-use Rattle.grammar.proofs.Basics.{true-and-false}
+use Rattle.grammar.specs.Useful.{Productive, InContext}
+use Rattle.grammar.specs.PaperExamples.{Listed}
 use Rattle.grammar.proofs.Meetings.{Test, pairs-in-all}
 use Rattle.grammar.proofs.CertificateTests.{Triple, every-below, every-below-member, has, hasSymbol}
-use Rattle.grammar.proofs.CertificateClosure.{Line, given, by-empty, by-unit, by-pair, transitions, Given}
+use Rattle.grammar.proofs.CertificateClosure.{Line, given, by-empty, by-unit, by-pair, transitions, itself}
 use Rattle.grammar.proofs.CertificateCounting.{Places}
 use Rattle.grammar.proofs.CertificateMeetings.{joins}
-use Rattle.grammar.proofs.CertificateCycle.{certifiedRank, certified-no-cycle, certifiedCycle}
-use Rattle.grammar.proofs.Certificate.{closureCertified, closure-has, closure-lacks, closure-count, closure-meetings, symbolsCertified, useful, generating-exact, reached-exact, has-cycle}
-
--- the transitions of a list
-abbrev Listed : List Triple → Transitions
-Listed gs q X r = List·Memᴰ {A = Triple} (q, X, r) gs
-
-itself : (gs : List Triple) → Given (Listed gs) gs
-itself gs = record { listed = λ q X r m. m; meant = λ q X r m. m }
+use Rattle.grammar.proofs.CertificateSymbols.{generates}
+use Rattle.grammar.proofs.Certificate.{closureCertified, closure-has, closure-lacks, closure-count, closure-meetings, symbolsCertified}
+use Rattle.grammar.proofs.CertificateVerdicts.{not-productive, not-in-context}
 
 -- the smallest closed set of a list of rules and one of given transitions
 abbrev Smallest : (rs : List Rule) (gs : List Triple) (s : ℕ) → Transitions
@@ -41,47 +34,14 @@ Examined rs gs s n = HasCount (Places (Smallest rs gs s)) 65536 n
 abbrev Joins : (rs : List Rule) (gs : List Triple) (s n : ℕ) → Type 0
 Joins rs gs s n = (t : Test) → ((q X r : ℕ) → q < 32 → Unit {0} → r < 32 → (t q X r ≡ true) ↔ Smallest rs gs s q X r) → meetings t 32 rs ≡ n
 
-examined : (rs : List Rule) (gs : List Triple) (s : ℕ) (ls : List Line) → closureCertified rs gs s ls ≡ true → Examined rs gs s (lib.ListN.length ls)
+examined : (rs : List Rule) (gs : List Triple) (s : ℕ) (ls : List Line) → closureCertified rs gs s ls ≡ true → Examined rs gs s (length ls)
 examined rs gs s ls h = closure-count rs (Listed gs) gs s (itself gs) ls h
 
 joined : (rs : List Rule) (gs : List Triple) (s : ℕ) (ls : List Line) → closureCertified rs gs s ls ≡ true → Joins rs gs s (joins rs (transitions ls))
 joined rs gs s ls h = closure-meetings rs (Listed gs) gs s (itself gs) ls h (λ X. Unit {0}) (pairs-in-all rs)
 
--- 002 section 3
-abbrev reportRules : List Rule
-reportRules = unit 0 32 ∷ pair 0 1 1 ∷ pair 1 0 1 ∷ unit 1 33 ∷ []
-
-abbrev reportGiven : List Triple
-reportGiven = (0, 32, 1) ∷ (1, 33, 2) ∷ (2, 32, 1) ∷ []
-
-abbrev reportLines : List Line
-reportLines =
-    ((0, 0, 2), by-pair 1 2 1)
-    ∷ ((1, 0, 2), by-pair 1 2 1)
-    ∷ ((2, 0, 2), by-pair 1 2 1)
-    ∷ ((2, 1, 2), by-pair 0 1 1)
-    ∷ ((0, 1, 2), by-pair 0 1 1)
-    ∷ ((2, 0, 1), by-unit 32)
-    ∷ ((1, 1, 2), by-unit 33)
-    ∷ ((0, 0, 1), by-unit 32)
-    ∷ ((2, 32, 1), given)
-    ∷ ((1, 33, 2), given)
-    ∷ ((0, 32, 1), given)
-    ∷ []
-
-report-certified : closureCertified reportRules reportGiven 3 reportLines ≡ true
-unfolding closureCertified
-report-certified = refl
-
-pub report-examined : Examined reportRules reportGiven 3 11
-report-examined = examined reportRules reportGiven 3 reportLines report-certified
-
-pub report-joins : Joins reportRules reportGiven 3 8
-unfolding joins
-report-joins = joined reportRules reportGiven 3 reportLines report-certified
-
 -- 001: the variables A, B, C, D, S, T, X are 0 to 6, the terminals a and b 32 and 33
-abbrev chainRules : List Rule
+abbrev pub chainRules : List Rule
 chainRules =
     pair 4 5 5
     ∷ pair 4 0 2
@@ -98,10 +58,10 @@ chainRules =
     ∷ unit 1 33
     ∷ []
 
-abbrev chainGiven : List Triple
+abbrev pub chainGiven : List Triple
 chainGiven = (0, 33, 1) ∷ (1, 32, 2) ∷ (2, 32, 3) ∷ (3, 33, 4) ∷ (4, 32, 5) ∷ (5, 33, 6) ∷ []
 
-abbrev chainLines : List Line
+abbrev pub chainLines : List Line
 chainLines =
     ((0, 6, 6), by-pair 5 2 5)
     ∷ ((0, 4, 6), by-pair 5 2 5)
@@ -163,13 +123,13 @@ chain-none X l =
     (not-true (has (transitions chainLines) 1 X 3) (every-below-member (λ X. not (has (transitions chainLines) 1 X 3)) 32 X refl l))
 
 -- 01: S → ε alone, and with S → SS, on one state
-abbrev emptyRules : List Rule
+abbrev pub emptyRules : List Rule
 emptyRules = empty 0 ∷ []
 
-abbrev doublingRules : List Rule
+abbrev pub doublingRules : List Rule
 doublingRules = empty 0 ∷ pair 0 0 0 ∷ []
 
-abbrev emptyLines : List Line
+abbrev pub emptyLines : List Line
 emptyLines = ((0, 0, 0), by-empty) ∷ []
 
 empty-certified : closureCertified emptyRules [] 1 emptyLines ≡ true
@@ -191,42 +151,18 @@ pub doubling-joins : Joins doublingRules [] 1 1
 unfolding joins
 doubling-joins = joined doublingRules [] 1 emptyLines doubling-certified
 
--- 003, 25.5: S, A, B, C are 0 to 3 and a, b, c 32 to 34
-abbrev finiteRules : List Rule
-finiteRules = pair 0 1 2 ∷ pair 1 2 3 ∷ unit 1 32 ∷ unit 2 33 ∷ unit 3 34 ∷ []
+-- 01: S → AB and A → a, the start empty and A in no terminal context. S, A, B are 0 to 2 and a is 32.
+abbrev pub emptyLanguageRules : List Rule
+emptyLanguageRules = pair 0 1 2 ∷ unit 1 32 ∷ []
 
-pub finite-no-cycle : PairCycle (Among finiteRules) 0 → ⊥
-unfolding certifiedRank
-finite-no-cycle = certified-no-cycle (λ X. true) finiteRules 0 (λ X u. refl) (λ X. getD (2 ∷ 1 ∷ []) X 0) refl
-
--- 003, 25.6, numbered alike
-abbrev growingRules : List Rule
-growingRules = pair 0 1 2 ∷ pair 1 2 0 ∷ unit 1 32 ∷ unit 2 33 ∷ unit 3 34 ∷ []
-
-abbrev growingVariables : List ℕ
-growingVariables = 0 ∷ 3 ∷ 2 ∷ 1 ∷ []
-
-abbrev growingReached : List ℕ
-growingReached = 33 ∷ 32 ∷ 2 ∷ 1 ∷ 0 ∷ []
-
-growing-certified : symbolsCertified growingRules 0 growingVariables growingReached ≡ true
+empty-language-certified : symbolsCertified emptyLanguageRules 0 (1 ∷ []) (2 ∷ 0 ∷ []) ≡ true
 unfolding symbolsCertified
-growing-certified = refl
+empty-language-certified = refl
 
-pub C-generates : Generating (Among growingRules) 3
-unfolding useful
-C-generates = generating-exact growingRules 0 growingVariables growingReached growing-certified 3 .0 refl
+pub empty-language : Productive (Among emptyLanguageRules) 0 → ⊥
+unfolding generates
+empty-language = not-productive emptyLanguageRules 0 (1 ∷ []) (2 ∷ 0 ∷ []) empty-language-certified 0 refl
 
-pub C-not-reached : Reached (Among growingRules) 0 3 → ⊥
+pub A-not-in-context : InContext (Among emptyLanguageRules) 0 1 → ⊥
 unfolding hasSymbol
-C-not-reached r = true-and-false (reached-exact growingRules 0 growingVariables growingReached growing-certified 3 .1 r) refl
-
-pub c-not-reached : Reached (Among growingRules) 0 34 → ⊥
-unfolding hasSymbol
-c-not-reached r = true-and-false (reached-exact growingRules 0 growingVariables growingReached growing-certified 34 .1 r) refl
-
-pub growing-cycle : ((X : ℕ) → Useful (Among growingRules) 0 X ↔ (Generating (Among growingRules) X × Reached (Among growingRules) 0 X)) →
-    PairCycle (Among growingRules) 0
-unfolding certifiedCycle useful
-growing-cycle theorem =
-    has-cycle growingRules 0 growingVariables growingReached growing-certified theorem 0 1 (0 ∷ []) refl
+A-not-in-context = not-in-context emptyLanguageRules 0 (1 ∷ []) (2 ∷ 0 ∷ []) empty-language-certified 1 refl

@@ -9,8 +9,8 @@ use native.Mathlib.Omega.{arith}
 use lib.Dec.{eqb}
 use borrow.Author.Tests.{eqb-true, eqb-false, eq-eqb, not-true}
 use Rattle.grammar.specs.Rule.{Rule, empty, unit, pair}
+use Rattle.grammar.specs.CountingTheorems.{NoRepeat}
 use Rattle.grammar.proofs.Basics.{cases, and-left, and-right, and-both, or-split, or-left, or-right, true-and-false}
-use Rattle.grammar.proofs.NoRepeat.{NoRepeat}
 
 -- all elements of a list pass
 unfoldable pub every : {A : Type 0} → (A → Bool) → List A → Bool
@@ -102,6 +102,11 @@ has-member {ts} {q} {X} {r} h =
 pub member-has : {ts : List Triple} {q X r : ℕ} → List·Memᴰ {A = Triple} (q, X, r) ts → has ts q X r ≡ true
 unfolding has
 member-has {q = q} {X = X} {r = r} m = member-some (sameTriple (q, X, r)) m (same-triple-itself (q, X, r))
+
+-- a list within another
+pub listed-within : (ts us : List Triple) → every (λ a. has us (a .0) (a .1) (a .2)) ts ≡ true → {q X r : ℕ} → List·Memᴰ {A = Triple} (q, X, r) ts →
+    List·Memᴰ {A = Triple} (q, X, r) us
+listed-within ts us h m = has-member (every-member (λ a. has us (a .0) (a .1) (a .2)) h m)
 
 -- X stands in the list
 unfoldable pub hasSymbol : List ℕ → ℕ → Bool

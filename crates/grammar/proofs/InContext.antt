@@ -45,13 +45,13 @@ module _ (R : Rules) (S X : ℕ) where
 
   pub in-context-trans : (A : ℕ) → InContext R S A → InContext R A X → InContext R S X
   unfolding InContext
-  in-context-trans A c d =
-      ( c .0 ++ d .0
-      , d .1 ++ c .1
-      , terminals-append (c .0) (d .0) (c .2) (d .2)
-      , terminals-append (d .1) (c .1) (d .3) (c .3)
-      , derives-inside X (c .0) (c .1) (d .0) (d .1) (c .4) (d .4)
-      )
+  in-context-trans A c d = (
+    c .0 ++ d .0,
+    d .1 ++ c .1,
+    terminals-append (c .0) (d .0) (c .2) (d .2),
+    terminals-append (d .1) (c .1) (d .3) (c .3),
+    derives-inside X (c .0) (c .1) (d .0) (d .1) (c .4) (d .4),
+  )
 
 pub reached-in-context : {R : Rules} {S X : ℕ} → Reached R S X → InContext R S X
 unfolding InContext Productive Terminals

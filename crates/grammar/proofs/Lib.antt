@@ -12,7 +12,9 @@ pub mod CertificateSymbols
 pub mod CertificateReached
 pub mod CertificateCycle
 pub mod Certificate
+pub mod CertificateVerdicts
 pub mod CertificateExamples
+pub mod PaperExamples
 pub mod Strings
 pub mod Derivations
 pub mod Backwards

@@ -25,13 +25,13 @@ module _ (R : Rules) (S X : ℕ) where
   unfolding Useful Productive InContext
   both-useful p c =
       let v = c .0 in
-      let w = c .1 in
-      ( v
-      , w
-      , v ++ (p .0 ++ w)
-      , terminals-append v (p .0 ++ w) (c .2) (terminals-append (p .0) w (p .1) (c .3))
-      , c .4
-      , derives-context v w (p .2)
+      let w = c .1 in (
+        v,
+        w,
+        v ++ (p .0 ++ w),
+        terminals-append v (p .0 ++ w) (c .2) (terminals-append (p .0) w (p .1) (c .3)),
+        c .4,
+        derives-context v w (p .2),
       )
 
   pub useful-is-both : Useful R S X ↔ (Productive R X × InContext R S X)

@@ -1,6 +1,6 @@
 -- Derivation. Assumes nothing.
 use Prim.Native.Nat.{ℕ}
-use mathlib.Core.List.{List, [], _∷_, _++_}
+use mathlib.Core.List.{List, _∷_, _++_}
 use Rattle.grammar.specs.Rule.{Rule, Rules, head, body}
 
 -- 002 section 2: "If A → β is a production of P and α and γ are arbitrary strings over Σ, then αAγ ⇒ αβγ"

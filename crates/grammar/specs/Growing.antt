@@ -2,7 +2,7 @@
 use Prim.Native.Nat.{ℕ, _<_}
 use mathlib.Core.List.{List, [], _∷_, _++_}
 use lib.ListN.{length}
-use Rattle.grammar.specs.Rule.{Rule, Rules, head, body}
+use Rattle.grammar.specs.Rule.{Rules, head, body}
 use Rattle.grammar.specs.Derivation.{Derives}
 use Rattle.grammar.specs.Useful.{Useful}
 

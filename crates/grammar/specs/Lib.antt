@@ -8,3 +8,5 @@ pub mod Growing
 pub mod Counting
 pub mod Inductive
 pub mod PaperTheorems
+pub mod CountingTheorems
+pub mod PaperExamples

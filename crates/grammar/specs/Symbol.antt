@@ -1,6 +1,6 @@
 -- The symbols of a grammar: variables are 0 to 31, terminals 32 to 63. Assumes nothing.
 use Prim.Native.Nat.{ℕ, _≤_, _<_}
-use mathlib.Core.Bool.{Bool, true, false, cond}
+use mathlib.Core.Bool.{cond}
 use mathlib.Core.List.{List, [], _∷_}
 use lib.Dec.{ltb}
 use Rattle.grammar.specs.declared.SymbolClass.{SymbolClass}
