@@ -57,6 +57,13 @@ unfolding some
 member-some f (List·Memᴰ·head {x = y} {xs = ys} e) h = or-left (f y) (some f ys) (ap f (sym e) ∙ h)
 member-some f (List·Memᴰ·tail {x = y} {xs = ys} m) h = or-right (f y) (some f ys) (member-some f m h)
 
+-- some element is the same as x, where same elements are equal
+pub some-same : {A : Type 0} (same : A → A → Bool) → ((x y : A) → same x y ≡ true → x ≡ y) → {x : A} {xs : List A} → some (same x) xs ≡ true →
+    List·Memᴰ x xs
+some-same same equal {x} {xs} h =
+    let (y, m, e) = some-member (same x) xs h in
+    Memᴰ·cast (equal x y e) m
+
 -- if a, then b
 abbrev pub implies : Bool → Bool → Bool
 implies a b = not a || b
@@ -95,9 +102,7 @@ has ts q X r = some (sameTriple (q, X, r)) ts
 
 pub has-member : {ts : List Triple} {q X r : ℕ} → has ts q X r ≡ true → List·Memᴰ {A = Triple} (q, X, r) ts
 unfolding has
-has-member {ts} {q} {X} {r} h =
-    let (x, m, e) = some-member (sameTriple (q, X, r)) ts h in
-    Memᴰ·cast (same-triple-equal (q, X, r) x e) m
+has-member h = some-same sameTriple same-triple-equal h
 
 pub member-has : {ts : List Triple} {q X r : ℕ} → List·Memᴰ {A = Triple} (q, X, r) ts → has ts q X r ≡ true
 unfolding has
@@ -115,9 +120,7 @@ hasSymbol l X = some (eqb X) l
 
 pub has-symbol-member : {l : List ℕ} {X : ℕ} → hasSymbol l X ≡ true → List·Memᴰ X l
 unfolding hasSymbol
-has-symbol-member {l} {X} h =
-    let (x, m, e) = some-member (eqb X) l h in
-    Memᴰ·cast (eqb-true X x e) m
+has-symbol-member h = some-same eqb eqb-true h
 
 pub member-has-symbol : {l : List ℕ} {X : ℕ} → List·Memᴰ X l → hasSymbol l X ≡ true
 unfolding hasSymbol
@@ -170,6 +173,4 @@ hasRule rs ρ = some (sameRule ρ) rs
 
 pub has-rule-member : {rs : List Rule} {ρ : Rule} → hasRule rs ρ ≡ true → List·Memᴰ ρ rs
 unfolding hasRule
-has-rule-member {rs} {ρ} h =
-    let (σ, m, e) = some-member (sameRule ρ) rs h in
-    Memᴰ·cast (same-rule-equal ρ σ e) m
+has-rule-member h = some-same sameRule same-rule-equal h

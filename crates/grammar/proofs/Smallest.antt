@@ -20,7 +20,7 @@ module _ {R : Rules} {D : Transitions} {s : ℕ} where
   closure-saturated (pair A X Y) q r ρ l (along c (along d here)) = Closure.by-pair ρ c d
 
   pub closure-closed : Closed R D s (Closure R D s)
-  closure-closed = record { given = λ q X r d. Closure.given d; saturated = closure-saturated }
+  closure-closed = record { given = λ q X r d. Closure.given d; saturated = λ ρ q r m l. closure-saturated ρ q r m l }
 
   pub closure-least : {T : Transitions} → StatesBelow D s → Closed R D s T → (q X r : ℕ) → Closure R D s q X r → T q X r
   closure-least below closed q X r (Closure.given d) = closed .given q X r d

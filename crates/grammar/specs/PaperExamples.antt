@@ -53,6 +53,7 @@ pub record Pruned (X : ℕ) : Type 0 where
   pub not-in-context : InContext (Among infiniteRules) 0 X → ⊥
   pub not-useful : Useful (Among infiniteRules) 0 X → ⊥
 
+-- 002 section 3's figure; 25.5 is finite, "There are no cycles"; 25.6 is infinite, by "a cycle S, A, S"
 pub record PaperExamples : Type 0 where
   pub figure-1 : Figure1
   pub finite : Growing (Among finiteRules) 0 → ⊥
