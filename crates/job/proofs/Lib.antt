@@ -1,0 +1,17 @@
+pub mod Basics
+pub mod Members
+pub mod Permutation
+pub mod NoRepeat
+pub mod Sound
+pub mod Accepted
+pub mod Shapes
+pub mod SortedRules
+pub mod Ranks
+pub mod OrderFree
+pub mod States
+pub mod AcceptedFacts
+pub mod Records
+pub mod Earlier
+pub mod Walk
+pub mod Insertion
+pub mod RefusedPlace

@@ -1,0 +1,57 @@
+-- The number of states is the least number above each state that a record names: a maximum over the records of a maximum over each.
+-- Assumes nothing.
+use mathlib.Core.Path.{_≡_, refl, ap}
+use mathlib.Core.Logic.{_⊎_, inl, inr, ⊎-elim}
+use mathlib.Core.Bool.{_||_}
+use mathlib.Core.List.{List, [], _∷_, List·Memᴰ, List·Memᴰ·head, List·Memᴰ·tail}
+use Prim.Native.Nat.{ℕ, _<_, _≤_}
+use native.Mathlib.Omega.{arith}
+use lib.Dec.{eqb}
+use borrow.Author.Tests.{eqb-true}
+use Rattle.job.specs.declared.JobRecord.{JobRecord}
+use Rattle.job.specs.Format.{byteT, byteI, byteF}
+use Rattle.job.specs.Job.{statesIn, statesOf}
+use Rattle.job.specs.Order.{NamesState, StateCount}
+use Rattle.job.proofs.Basics.{cases, or-split}
+
+-- a state that a record names is below the number of that record
+named-below : (r : JobRecord) (q : ℕ) → NamesState r q → q < statesIn r
+named-below r q (inl (k, inl e)) = rw k (omega arith)
+named-below r q (inl (k, inr e)) = rw k (omega arith)
+named-below r q (inr (inl k, e)) = rw k (omega arith)
+named-below r q (inr (inr k, e)) = rw k (omega arith)
+
+-- and no smaller number has that property
+record-least : (r : JobRecord) (s : ℕ) → ((q : ℕ) → NamesState r q → q < s) → statesIn r ≤ s
+record-least r s above =
+    cases (eqb (r .kind) byteT)
+    (λ t.
+    let k : r .kind ≡ byteT = eqb-true (r .kind) byteT t in
+    rw t (omega (arith, above (r .first) (inl (k, inl refl)), above (r .third) (inl (k, inr refl)))))
+    (λ t.
+    cases (eqb (r .kind) byteI || eqb (r .kind) byteF)
+    (λ u.
+    let k : (r .kind ≡ byteI) ⊎ (r .kind ≡ byteF) =
+    ⊎-elim (λ v. inl (eqb-true (r .kind) byteI v)) (λ v. inr (eqb-true (r .kind) byteF v))
+    (or-split (eqb (r .kind) byteI) (eqb (r .kind) byteF) u) in
+    rw (t, u) (above (r .first) (inr (k, refl))))
+    (λ u. rw (t, u) (omega arith)))
+
+-- the same for all records
+pub named-below-all : {rs : List JobRecord} {r : JobRecord} (q : ℕ) → List·Memᴰ r rs → NamesState r q → q < statesOf rs
+unfolding statesOf
+named-below-all {r = r} q (List·Memᴰ·head e) n = omega (arith, named-below r q n, ap statesIn e)
+named-below-all q (List·Memᴰ·tail m) n = omega (arith, named-below-all q m n)
+
+pub states-least : (rs : List JobRecord) (s : ℕ) → ((r : JobRecord) (q : ℕ) → List·Memᴰ r rs → NamesState r q → q < s) → statesOf rs ≤ s
+unfolding statesOf
+states-least [] s above = omega arith
+states-least (r ∷ rs) s above =
+    omega (
+      arith,
+      record-least r s (λ q. above r q (List·Memᴰ·head refl)),
+      states-least rs s (λ x q m. above x q (List·Memᴰ·tail m)),
+    )
+
+pub state-count : StateCount
+state-count rs = record { bounds = λ r q m n. named-below-all q m n; least = states-least rs }

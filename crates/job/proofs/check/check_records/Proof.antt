@@ -1,0 +1,141 @@
+-- `check::check_records`. The walk's invariant: the records before i are counted, and the first refusal is that of the records from i on.
+-- The search's: none of the first j records is record i. Each way on and out is a law of `Walk`. Assumes nothing.
+use mathlib.Core.Path.{_≡_, sym, _∙_, subst}
+use mathlib.Core.Bool.{Bool, true, false}
+use mathlib.Core.Logic.{⊎-elim}
+use Prim.Native.Nat.{ℕ, _+_, _*_, _-_, _/_, _≤_, _<_}
+use native.Mathlib.Numerals.{add-one}
+use native.Mathlib.Omega.{arith}
+use lib.ListN.{length, getD, take}
+use borrow.Author.Needs.{needs}
+use Rattle.job.specs.Format.{recordsOf, has}
+use Rattle.job.specs.Order.{noRecord}
+use Rattle.job.proofs.Records.{records-counted}
+use Rattle.job.proofs.Earlier.{none-so-far, has-at}
+use Rattle.job.proofs.Walk.{Walked, Read, walked-none, walked-on, walked-all, tally-within, by-form, by-repeat, by-order}
+use Rattle.job.proofs.check.check_records.Statement.{statement}
+use Rattle.job.proofs.check.check_records.Tie as tie
+
+abbrev Inv-loop : tie.InvT-loop
+Inv-loop job limits needed count seen i r form j₀ j = (j ≤ i) × (has (take j (recordsOf job)) r ≡ false)
+
+abbrev μ-loop : tie.MeasureT-loop
+μ-loop job limits needed count seen i r form j₀ j = i - j
+
+abbrev Inv-walk : tie.InvT-walk
+Inv-walk job limits needed count seen₀ i₀ seen i = (i ≤ count) × (count ≡ length (recordsOf job)) × Walked limits (recordsOf job) i seen
+
+abbrev μ-walk : tie.MeasureT-walk
+μ-walk job limits needed count seen₀ i₀ seen i = count - i
+
+walk-holds : tie.Need-walk-holds Inv-loop μ-loop Inv-walk μ-walk
+walk-holds c = (omega arith, sym (records-counted (c .before .args .job .now)), walked-none _ _)
+
+record-at-requires : tie.Need-record-at-requires Inv-loop μ-loop Inv-walk μ-walk
+record-at-requires c κs = omega arith
+
+-- the record is read
+read : (c : tie.After-form-fault Inv-loop μ-loop Inv-walk μ-walk)
+    → Read (c .before .before .before .before .before .args .limits) (recordsOf (c .before .before .before .before .before .args .job .now))
+    (c .before .before .before .walk .i) (c .before .before .before .walk .seen) (c .before .record-at .result) (c .form-fault .result)
+read c =
+    record {
+      walked = c .before .before .before .walk .inv .2;
+      below = omega arith;
+      here = c .before .record-at .ensures;
+      formed = c .form-fault .ensures;
+    }
+
+-- the search is over
+none-before : (c : tie.After-loop Inv-loop μ-loop Inv-walk μ-walk)
+    → has (take (c .before .before .before .before .before .before .walk .i) (recordsOf (c .before .before .before .before .before .before .before .before .args .job .now)))
+    (c .before .before .before .before .record-at .result) ≡ false
+none-before c =
+    let d = c .before in
+    let e : c .before .before .before .before .before .before .walk .i ≡ d .loop .j = omega arith in
+    rw e (d .loop .inv .1)
+
+returns : tie.Need-returns Inv-loop μ-loop Inv-walk μ-walk
+returns c = by-form (read (c .before)) _ (c .if1 .taken)
+
+loop-holds : tie.Need-loop-holds Inv-loop μ-loop Inv-walk μ-walk
+unfolding has
+loop-holds c = search needs
+
+alike-requires : tie.Need-alike-requires Inv-loop μ-loop Inv-walk μ-walk
+alike-requires c κs = omega arith
+
+loop-again : tie.Need-loop-again Inv-loop μ-loop Inv-walk μ-walk
+loop-again c =
+    let d = c .before .before .before in
+    let a = d .before .before .before in
+    let rs = recordsOf (a .before .before .before .before .args .job .now) in
+    let l : d .loop .j < length rs = omega arith in (
+      omega arith,
+      rw add-one (none-so-far (a .record-at .result) rs (d .loop .j) l (d .loop .inv .1) (sym (c .before .alike .ensures) ∙ c .if2 .left)),
+    )
+
+returns-2 : tie.Need-returns-2 Inv-loop μ-loop Inv-walk μ-walk
+returns-2 c = let d = c .before .before in by-order (read (d .before .before .before)) _ (d .before .before .if1 .left) (none-before d) (c .before .order-fault .ensures) (c .if3 .taken)
+
+count-in-requires : tie.Need-count-in-requires Inv-loop μ-loop Inv-walk μ-walk
+count-in-requires c κs =
+    let a = c .before .before .before .before .before .before .before .before in
+    omega (arith, tally-within _ _ _ _ (a .walk .inv .2) (omega arith))
+
+walk-again : tie.Need-walk-again Inv-loop μ-loop Inv-walk μ-walk
+walk-again c =
+    let d = c .before .before .before in (
+      omega arith,
+      c .before .before .before .before .before .before .before .before .before .walk .inv .1,
+      walked-on (read (d .before .before .before)) (d .before .before .if1 .left) (none-before d) (c .before .before .order-fault .ensures)
+          (c .before .if3 .left) (c .count-in .ensures),
+    )
+
+returns-3 : tie.Need-returns-3 Inv-loop μ-loop Inv-walk μ-walk
+returns-3 c =
+    ⊎-elim
+    (λ w. absurd (omega arith))
+    (λ w.
+    let b = c .before .before in
+    let j = w .4 .j in
+    let rs = recordsOf (b .before .before .args .job .now) in
+    let l : j < length rs = omega arith in
+    by-repeat
+    (read (record { before = record { before = record { before = b; walk-test = w .0 }; record-at = w .1 }; form-fault = w .2 }))
+    _
+    (w .3 .left)
+    (has-at (w .1 .result) rs (b .walk .i) j (w .5 .taken) l (sym (w .6 .ensures) ∙ w .7 .taken)))
+    (c .before .walk-test .came)
+
+returns-4 : tie.Need-returns-4 Inv-loop μ-loop Inv-walk μ-walk
+returns-4 c =
+    let d = c .before .before .before in
+    c .missing-kind .ensures ∙ walked-all (d .walk .inv .2) _ _ (d .walk .inv .1) (d .walk .inv .0) (c .before .if4 .left)
+
+pub check-records-spec : {M : Type 1} → statement M
+check-records-spec =
+    tie.close
+    (tie.spec
+    Inv-loop
+    μ-loop
+    Inv-walk
+    μ-walk
+    walk-holds
+    record-at-requires
+    (λ c κs. search needs)
+    returns
+    loop-holds
+    alike-requires
+    (λ c. omega arith)
+    (λ c. omega arith)
+    loop-again
+    (λ c κs. search needs)
+    returns-2
+    count-in-requires
+    (λ c. omega arith)
+    (λ c. omega arith)
+    walk-again
+    returns-3
+    (λ c κs. search needs)
+    returns-4)

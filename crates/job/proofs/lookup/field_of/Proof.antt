@@ -1,0 +1,54 @@
+-- `lookup::field_of`. The invariant: no record before i has the kind, so the records from i on decide. Assumes nothing.
+use mathlib.Core.Path.{_≡_, sym, _∙_}
+use mathlib.Core.List.{List}
+use Prim.Native.Nat.{ℕ, suc, _+_, _-_, _≤_, _<_}
+use native.Mathlib.Numerals.{add-one}
+use native.Mathlib.Omega.{arith}
+use lib.ListN.{length, getD, drop, drop-of-length-le}
+use lib.Seq.{drop-cons}
+use borrow.Author.Needs.{needs}
+use borrow.Author.Tests.{eq-eqb, ne-eqb}
+use Rattle.job.specs.declared.JobRecord.{JobRecord}
+use Rattle.job.specs.Format.{recordsOf}
+use Rattle.job.specs.Job.{fieldOf}
+use Rattle.job.specs.Order.{noRecord}
+use Rattle.job.proofs.Records.{records-counted}
+use Rattle.job.proofs.lookup.field_of.Statement.{statement}
+use Rattle.job.proofs.lookup.field_of.Tie as tie
+
+abbrev Inv-loop : tie.InvT-loop
+Inv-loop job kind count i₀ i = (count ≡ length (recordsOf job)) × (fieldOf kind (recordsOf job) ≡ fieldOf kind (drop i (recordsOf job)))
+
+abbrev μ-loop : tie.MeasureT-loop
+μ-loop job kind count i₀ i = count - i
+
+module _ (k : ℕ) (rs : List JobRecord) (count i : ℕ) (all : count ≡ length rs) (inv : fieldOf k rs ≡ fieldOf k (drop i rs)) where
+  module _ (r : JobRecord) (h : i < count) (at : r ≡ getD rs i noRecord) where
+    found : r .kind ≡ k → r .first ≡ fieldOf k rs
+    unfolding fieldOf
+    found e = let l : i < length rs = omega arith in rw (inv, drop-cons rs i noRecord l, ← at, eq-eqb (r .kind) k e)
+
+    other : (r .kind ≡ k → ⊥) → fieldOf k rs ≡ fieldOf k (drop (i + 1) rs)
+    unfolding fieldOf
+    other n = let l : i < length rs = omega arith in inv ∙ rw (drop-cons rs i noRecord l, ← at, ne-eqb (r .kind) k n, add-one)
+
+  none : count ≤ i → 0 ≡ fieldOf k rs
+  unfolding fieldOf
+  none h = let l : length rs ≤ i = omega arith in rw (inv, drop-of-length-le rs l)
+
+loop-again : tie.Need-loop-again Inv-loop μ-loop
+loop-again c = (c .before .before .before .before .loop .inv .0, search other)
+
+pub field-of-spec : {M : Type 1} → statement M
+field-of-spec =
+    tie.close
+    (tie.spec
+    Inv-loop
+    μ-loop
+    (λ c. (sym (records-counted (c .before .args .job .now)), search needs))
+    (λ c κs. omega arith)
+    (λ c. search found)
+    (λ c. omega arith)
+    (λ c. omega arith)
+    loop-again
+    (λ c. search none))

@@ -1,0 +1,41 @@
+-- `lookup::states_in`: one law for each kind that names states, and one for the others. Assumes nothing.
+use mathlib.Core.Path.{_≡_}
+use Prim.Native.Nat.{ℕ, _+_, max}
+use native.Mathlib.Numerals.{add-one}
+use borrow.Author.Needs.{needs}
+use borrow.Author.Tests.{ne-eqb}
+use Rattle.job.specs.declared.JobRecord.{JobRecord}
+use Rattle.job.specs.Format.{byteT, byteI, byteF}
+use Rattle.job.specs.Job.{statesIn}
+use Rattle.job.proofs.lookup.states_in.Statement.{statement}
+use Rattle.job.proofs.lookup.states_in.Tie as tie
+
+module _ (r : JobRecord) where
+  of-transition : (n : ℕ) → r .kind ≡ byteT → n ≡ max (r .first) (r .third) → n + 1 ≡ statesIn r
+  of-transition n e h = rw (e, h, add-one)
+
+  of-initial : r .kind ≡ byteI → r .first + 1 ≡ statesIn r
+  of-initial e = rw (e, add-one)
+
+  of-final : r .kind ≡ byteF → r .first + 1 ≡ statesIn r
+  of-final e = rw (e, add-one)
+
+  of-others : (r .kind ≡ byteT → ⊥) → (r .kind ≡ byteI → ⊥) → (r .kind ≡ byteF → ⊥) → 0 ≡ statesIn r
+  of-others t n f = rw (ne-eqb (r .kind) byteT t, ne-eqb (r .kind) byteI n, ne-eqb (r .kind) byteF f)
+
+ruleset ways = (of-transition, of-initial, of-final, of-others)
+
+pub states-in-spec : {M : Type 1} → statement M
+states-in-spec =
+    tie.close
+    (tie.spec
+    (λ c. search needs)
+    (λ c. search needs)
+    (λ c κs. search needs)
+    (λ c. search needs)
+    (λ c. search ways)
+    (λ c. search needs)
+    (λ c. search ways)
+    (λ c. search needs)
+    (λ c. search ways)
+    (λ c. search ways))

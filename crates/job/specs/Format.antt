@@ -1,0 +1,90 @@
+-- The record format of a job: four bytes a record, the kinds, and the class of each field. Assumes nothing.
+use Prim.Native.Nat.{ℕ}
+use mathlib.Core.Bool.{Bool, true, false, cond, _&&_, _||_}
+use mathlib.Core.List.{List, [], _∷_}
+use lib.Dec.{eqb, ltb}
+use lib.ListN.{getD}
+use Rattle.job.specs.declared.JobRecord.{JobRecord}
+use Rattle.job.specs.declared.Limits.{Limits}
+use Rattle.job.specs.declared.FieldClass.{FieldClass}
+use Rattle.job.specs.declared.FieldClass.the-variants.{Zero, Variable, Symbol, State}
+
+-- 01, The job: "Records of four bytes, the first an ASCII letter, no header". Up to three bytes past the last whole record are none.
+unfoldable pub recordsOf : List ℕ → List JobRecord
+recordsOf [] = []
+recordsOf (k ∷ []) = []
+recordsOf (k ∷ a ∷ []) = []
+recordsOf (k ∷ a ∷ b ∷ []) = []
+recordsOf (k ∷ a ∷ b ∷ c ∷ rest) = record { kind = k; first = a; second = b; third = c } ∷ recordsOf rest
+
+-- the kind bytes E, U, P, T, I, F and S
+abbrev pub byteE : ℕ
+byteE = 69
+
+abbrev pub byteU : ℕ
+byteU = 85
+
+abbrev pub byteP : ℕ
+byteP = 80
+
+abbrev pub byteT : ℕ
+byteT = 84
+
+abbrev pub byteI : ℕ
+byteI = 73
+
+abbrev pub byteF : ℕ
+byteF = 70
+
+abbrev pub byteS : ℕ
+byteS = 83
+
+-- the row of a kind byte in the table of kinds; 7 for an unknown one
+abbrev pub rowOf : ℕ → ℕ
+rowOf k =
+    cond (eqb k byteE) 0
+    (cond (eqb k byteU) 1
+    (cond (eqb k byteP) 2 (cond (eqb k byteT) 3 (cond (eqb k byteI) 4 (cond (eqb k byteF) 5 (cond (eqb k byteS) 6 7))))))
+
+-- 01, The job: "a constant table of seven kinds by three fields"
+abbrev pub fieldClasses : List (List FieldClass)
+fieldClasses =
+    (Variable ∷ Zero ∷ Zero ∷ [])
+    ∷ (Variable ∷ Symbol ∷ Zero ∷ [])
+    ∷ (Variable ∷ Variable ∷ Variable ∷ [])
+    ∷ (State ∷ Symbol ∷ State ∷ [])
+    ∷ (State ∷ Zero ∷ Zero ∷ [])
+    ∷ (State ∷ Zero ∷ Zero ∷ [])
+    ∷ (Variable ∷ Zero ∷ Zero ∷ [])
+    ∷ []
+
+-- the class of field 0, 1 or 2 in a row of the table
+abbrev pub classAt : ℕ → ℕ → FieldClass
+classAt row field = getD (getD fieldClasses row []) field Zero
+
+-- 01, The job: "Variables are 0 to 31, terminals 32 to 63, states 0 to 31; symbols are both"; the number of states is a limit
+abbrev pub inClass : Limits → FieldClass → ℕ → Bool
+inClass limits Zero x = eqb x 0
+inClass limits Variable x = ltb x 32
+inClass limits Symbol x = ltb x 64
+inClass limits State x = ltb x (limits .states)
+
+-- each field is of its class
+unfoldable pub fieldsFit : Limits → JobRecord → Bool
+fieldsFit limits r =
+    inClass limits (classAt (rowOf (r .kind)) 0) (r .first)
+    && inClass limits (classAt (rowOf (r .kind)) 1) (r .second)
+    && inClass limits (classAt (rowOf (r .kind)) 2) (r .third)
+
+-- 01, The job: "E, U and P are rules"
+abbrev pub isRule : JobRecord → Bool
+isRule r = eqb (r .kind) byteE || eqb (r .kind) byteU || eqb (r .kind) byteP
+
+-- the same four bytes
+abbrev pub same : JobRecord → JobRecord → Bool
+same a b = eqb (a .kind) (b .kind) && eqb (a .first) (b .first) && eqb (a .second) (b .second) && eqb (a .third) (b .third)
+
+-- the record stands in the list
+unfoldable pub has : List JobRecord → JobRecord → Bool
+has [] r = false
+has (x ∷ xs) r = same x r || has xs r

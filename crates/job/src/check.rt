@@ -1,0 +1,155 @@
+// The checks of a job: refusals 1 to 9, in the order of document 01's table.
+use crate::Checked;
+use crate::JobRecord;
+use crate::Limits;
+use crate::Tally;
+use crate::format;
+ghost use mathlib.Core.Path.{_≡_};
+ghost use mathlib.Core.Bool.{Bool, true, false};
+ghost use mathlib.Core.List.{List, []};
+ghost use Prim.Native.Nat.{_+_, _*_, _<_, _≤_, _%_};
+ghost use lib.ListN.{length};
+ghost use Rattle.job.specs.Format.{recordsOf};
+ghost use Rattle.job.specs.Check.{checkOf, firstFault, missing, orElse};
+ghost use Rattle.job.specs.Walk.{formFault, orderFault, counted, missingBy};
+
+// 3 or 4 where the record itself is at fault, else 0.
+pub fn form_fault(limits: Limits, r: JobRecord) -> usize
+    ensures { λ n. ⌜ n ≡ formFault limits r ⌝ }
+{
+    if format::kind_row(r.kind) == 7 {
+        return 3;
+    }
+    if !format::fields_fit(limits, r) {
+        return 4;
+    }
+    0
+}
+
+// 6 or 7 where the record is one too many after those that were counted, else 0.
+pub fn order_fault(limits: Limits, seen: Tally, r: JobRecord) -> usize
+    ensures { λ n. ⌜ n ≡ orderFault limits seen r ⌝ }
+{
+    if r.kind == b'S' {
+        if 0 < seen.starts {
+            return 6;
+        }
+        return 0;
+    }
+    if r.kind == b'I' {
+        if 0 < seen.initials {
+            return 6;
+        }
+        return 0;
+    }
+    if format::is_rule(r) {
+        if limits.rules <= seen.rules {
+            return 7;
+        }
+    }
+    0
+}
+
+// The tally with one record more.
+pub fn count_in(seen: Tally, r: JobRecord) -> Tally
+    requires { ⌜ (seen .rules < 4096) × (seen .starts < 4096) × (seen .initials < 4096) ⌝ }
+    ensures { λ t. ⌜ t ≡ counted seen r ⌝ }
+{
+    Tally {
+        rules: seen.rules + crate::one_if(format::is_rule(r)) as usize,
+        starts: seen.starts + crate::one_if(r.kind == b'S') as usize,
+        initials: seen.initials + crate::one_if(r.kind == b'I') as usize,
+    }
+}
+
+// Refusals 8 and 9, by what was counted in all records.
+fn missing_kind(seen: Tally, needed: bool, count: usize) -> Checked
+    ensures { λ r. ⌜ r ≡ missingBy needed seen count ⌝ }
+{
+    if seen.starts == 0 {
+        return Checked {
+            number: 8,
+            place: count,
+        };
+    }
+    if needed {
+        if seen.initials == 0 {
+            return Checked {
+                number: 9,
+                place: count,
+            };
+        }
+    }
+    Checked {
+        number: 0,
+        place: 0,
+    }
+}
+
+// Refusals 3 to 9 on the records of a job of whole records. Each record is compared with all before it; at a match the search stops at
+// once, out of both walks.
+pub fn check_records(job: &[u8], limits: Limits, needed: bool) -> Checked
+    requires { ⌜ (length (now job) ≤ 16384) × (length (now job) % 4 ≡ 0) ⌝ }
+    ensures { λ r. ⌜ r ≡ orElse (firstFault limits [] (recordsOf (now (job .entry)))) (missing needed (recordsOf (now (job .entry)))) ⌝ }
+{
+    let count = job.len() / 4;
+    let mut seen = Tally {
+        rules: 0,
+        starts: 0,
+        initials: 0,
+    };
+    let mut i = 0;
+    'walk: while i < count {
+        let r = format::record_at(job, i);
+        let form = form_fault(limits, r);
+        if form != 0 {
+            return Checked {
+                number: form,
+                place: i,
+            };
+        }
+        let mut j = 0;
+        while j < i {
+            if format::alike(job, j, r) {
+                break 'walk;
+            }
+            j += 1;
+        }
+        let order = order_fault(limits, seen, r);
+        if order != 0 {
+            return Checked {
+                number: order,
+                place: i,
+            };
+        }
+        seen = count_in(seen, r);
+        i += 1;
+    }
+    if i < count {
+        return Checked {
+            number: 5,
+            place: i,
+        };
+    }
+    missing_kind(seen, needed, count)
+}
+
+// All checks of a job's bytes. `needed`: whether an I record is needed.
+pub fn check(job: &[u8], limits: Limits, needed: bool) -> Checked
+    ensures { λ r. ⌜ r ≡ checkOf limits needed (now (job .entry)) ⌝ }
+{
+    let n = job.len();
+    if 16384 < n {
+        return Checked {
+            number: 2,
+            place: n,
+        };
+    }
+    if n % 4 != 0 {
+        return Checked {
+            number: 1,
+            place: n / 4,
+        };
+    }
+    check_records(job, limits, needed)
+}

@@ -1,0 +1,22 @@
+// What the order of the records does not change, and what ranks and the number of states mean: each theorem is carried by a function.
+ghost use Rattle.job.specs.Order.{AcceptedAlike, SameJob, RankCounts, StateCount};
+
+// Of two jobs with the same records each is accepted if the other is.
+pub fn accepted_alike()
+    ensures { λ r. ⌜ AcceptedAlike ⌝ }
+{}
+
+// Two accepted jobs with the same records have the same canonical job.
+pub fn same_job()
+    ensures { λ r. ⌜ SameJob ⌝ }
+{}
+
+// A rule's rank is the number of rules that sort before it.
+pub fn rank_counts()
+    ensures { λ r. ⌜ RankCounts ⌝ }
+{}
+
+// The number of states is the least that is above each state that a T, I or F record names.
+pub fn state_count_is_least()
+    ensures { λ r. ⌜ StateCount ⌝ }
+{}
