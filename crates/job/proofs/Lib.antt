@@ -15,3 +15,4 @@ pub mod Earlier
 pub mod Walk
 pub mod Insertion
 pub mod RefusedPlace
+pub mod Keys

@@ -1,0 +1,10 @@
+pub mod Table
+pub mod Start
+pub mod Step
+pub mod Advance
+pub mod Operations
+pub mod InRange
+pub mod Smallest
+pub mod Reasons
+pub mod Theorems
+pub mod Parts
