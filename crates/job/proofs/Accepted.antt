@@ -170,15 +170,15 @@ not-missing : (needed : Bool) (n : ℕ) → (needed ≡ true → 0 < n) → (nee
 not-missing true n h = ne-eqb n 0 (omega (arith, h refl))
 not-missing false n h = refl
 
--- a job is accepted exactly where it is `Accepted`
-pub check-accepted : (limits : Limits) (needed : Bool) (job : List ℕ) → checkOf limits needed job ≡ accepted → Accepted limits needed job
+-- a job is accepted exactly where it is `Accepted`; number 0 says as much
+pub number-accepted : (limits : Limits) (needed : Bool) (job : List ℕ) → checkOf limits needed job .number ≡ 0 → Accepted limits needed job
 unfolding checkOf missing
-check-accepted limits needed job e =
+number-accepted limits needed job e =
     let rs = recordsOf job in
     let walk = firstFault limits [] rs in
     let (long, whole, unrefused, start, initial) =
     each-passed (ltb 16384 (length job)) (eqb (length job % 4) 0) (eqb (walk .number) 0) (eqb (countKind byteS rs) 0)
-    (needed && eqb (countKind byteI rs) 0) walk _ _ _ (eqb-false (walk .number) 0) (ap (λ (c : Checked). c .number) e) in
+    (needed && eqb (countKind byteI rs) 0) walk _ _ _ (eqb-false (walk .number) 0) e in
     record {
       fits = ltb-false 16384 (length job) long;
       whole = eqb-true (length job % 4) 0 whole;
@@ -186,6 +186,9 @@ check-accepted limits needed job e =
       start = omega (arith, eqb-false (countKind byteS rs) 0 start);
       initial = there-if-needed needed (countKind byteI rs) initial;
     }
+
+pub check-accepted : (limits : Limits) (needed : Bool) (job : List ℕ) → checkOf limits needed job ≡ accepted → Accepted limits needed job
+check-accepted limits needed job e = number-accepted limits needed job (ap (λ (c : Checked). c .number) e)
 
 pub accepted-check : (limits : Limits) (needed : Bool) (job : List ℕ) → Accepted limits needed job → checkOf limits needed job ≡ accepted
 unfolding checkOf missing
@@ -197,6 +200,10 @@ accepted-check limits needed job a =
       ne-eqb (countKind byteS (recordsOf job)) 0 (omega (arith, a .start)),
       not-missing needed (countKind byteI (recordsOf job)) (a .initial),
     )
+
+pub accepted-by-number : (limits : Limits) (needed : Bool) (job : List ℕ) → checkOf limits needed job .number ≡ 0
+    → checkOf limits needed job ≡ accepted
+accepted-by-number limits needed job e = accepted-check limits needed job (number-accepted limits needed job e)
 
 pub check-is-accepted : (limits : Limits) (needed : Bool) (job : List ℕ) → (checkOf limits needed job ≡ accepted) ↔ Accepted limits needed job
 check-is-accepted limits needed job = (check-accepted limits needed job, accepted-check limits needed job)

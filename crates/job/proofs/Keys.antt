@@ -85,6 +85,9 @@ module _ (limits : Limits) (needed : Bool) (job : List ℕ) (ok : checkOf limits
         let r = getD (sortedRules (recordsOf job)) k noRecord in
         rw (key-at k h) (key-fits r (shaped r (member-at noRecord (sortedRules (recordsOf job)) k (omega arith))))
 
+    pub keys-of-rules : (n ≤ limits .rules) × ((k : ℕ) → k < n → KeyFits (getD keys k 0))
+    keys-of-rules = (keys-within, keys-fit)
+
     pub rules-of-keys : map ruleOfKey (take n keys) ≡ jobOf job .rules
     unfolding jobOf jobOfRecords
     rules-of-keys = ap (map ruleOfKey) sorted ∙ keys-say (sortedRules (recordsOf job)) shaped

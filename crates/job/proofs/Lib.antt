@@ -16,3 +16,4 @@ pub mod Walk
 pub mod Insertion
 pub mod RefusedPlace
 pub mod Keys
+pub mod JobChecks

@@ -1,12 +1,12 @@
 -- The walk over the records: what is known at record i, and what each way on or out makes of it. Assumes nothing.
-use mathlib.Core.Path.{_≡_, refl, sym, ap, _∙_}
+use mathlib.Core.Path.{_≡_, refl, _∙_}
 use mathlib.Core.Bool.{Bool, true, false, cond, not}
 use mathlib.Core.List.{List, [], _∷_, _++_}
-use Prim.Native.Nat.{ℕ, zero, suc, _+_, _≤_, _<_}
-use native.Mathlib.Nat.{zero-add, add-assoc, le-of-lt}
+use Prim.Native.Nat.{ℕ, suc, _+_, _≤_, _<_}
+use native.Mathlib.Nat.{le-of-lt}
 use native.Mathlib.Numerals.{add-one}
 use native.Mathlib.Omega.{arith}
-use borrow.Author.Tests.{eq-eqb, ne-eqb}
+use borrow.Author.Tests.{ne-eqb}
 use lib.Dec.{eqb}
 use lib.ListN.{length, getD, take, drop}
 use lib.Seq.{take-suc, drop-cons, take-length, drop-length, length-take-le}
@@ -32,29 +32,40 @@ fault-parts : (limits : Limits) (seen : List JobRecord) (r : JobRecord)
 unfolding fault formFault orderFault tallyOf
 fault-parts limits seen r = form-first (eqb (rowOf (r .kind)) 7) (fieldsFit limits r) (cond (has seen r) 5 (orderFault limits (tallyOf seen) r))
 
--- counting one record more
-kind-snoc : (k : ℕ) (seen : List JobRecord) (r : JobRecord) → countKind k (seen ++ (r ∷ [])) ≡ countKind k seen + one-if (eqb (r .kind) k)
-unfolding countKind
-kind-snoc k [] r = omega arith
-kind-snoc k (x ∷ xs) r = rw (kind-snoc k xs r, add-assoc)
-
-rules-snoc : (seen : List JobRecord) (r : JobRecord) → countRules (seen ++ (r ∷ [])) ≡ countRules seen + one-if (isRule r)
-unfolding countRules
-rules-snoc [] r = omega arith
-rules-snoc (x ∷ xs) r = rw (rules-snoc xs r, add-assoc)
-
-tally-snoc : (seen : List JobRecord) (r : JobRecord) → tallyOf (seen ++ (r ∷ [])) ≡ counted (tallyOf seen) r
-unfolding tallyOf counted
-tally-snoc seen r = simp (kind-snoc, rules-snoc)
-
 one-if-within : (b : Bool) → one-if b ≤ 1
 one-if-within true = omega arith
 one-if-within false = omega arith
 
-counts-within : (k : ℕ) (seen : List JobRecord) → (countKind k seen ≤ length seen) × (countRules seen ≤ length seen)
-unfolding countKind countRules
-counts-within k [] = omega arith
-counts-within k (x ∷ xs) = let ih = counts-within k xs in omega (arith, one-if-within (eqb (x .kind) k), one-if-within (isRule x))
+-- counting the records that pass a test: one record more, and at most as many as there are
+module _ (count : List JobRecord → ℕ) (test : JobRecord → Bool) (none : count [] ≡ 0)
+    (more : (r : JobRecord) (rs : List JobRecord) → count (r ∷ rs) ≡ one-if (test r) + count rs) where
+  count-snoc : (seen : List JobRecord) (r : JobRecord) → count (seen ++ (r ∷ [])) ≡ count seen + one-if (test r)
+  count-snoc [] r = omega (arith, more r [], none)
+  count-snoc (x ∷ xs) r = omega (arith, more x (xs ++ (r ∷ [])), more x xs, count-snoc xs r)
+
+  count-within : (seen : List JobRecord) → count seen ≤ length seen
+  count-within [] = omega (arith, none)
+  count-within (x ∷ xs) = omega (arith, more x xs, one-if-within (test x), count-within xs)
+
+kind-snoc : (k : ℕ) (seen : List JobRecord) (r : JobRecord) → countKind k (seen ++ (r ∷ [])) ≡ countKind k seen + one-if (eqb (r .kind) k)
+unfolding countKind
+kind-snoc k = count-snoc (countKind k) (λ r. eqb (r .kind) k) refl (λ r rs. refl)
+
+rules-snoc : (seen : List JobRecord) (r : JobRecord) → countRules (seen ++ (r ∷ [])) ≡ countRules seen + one-if (isRule r)
+unfolding countRules
+rules-snoc = count-snoc countRules isRule refl (λ r rs. refl)
+
+kind-within : (k : ℕ) (seen : List JobRecord) → countKind k seen ≤ length seen
+unfolding countKind
+kind-within k = count-within (countKind k) (λ r. eqb (r .kind) k) refl (λ r rs. refl)
+
+rules-within : (seen : List JobRecord) → countRules seen ≤ length seen
+unfolding countRules
+rules-within = count-within countRules isRule refl (λ r rs. refl)
+
+tally-snoc : (seen : List JobRecord) (r : JobRecord) → tallyOf (seen ++ (r ∷ [])) ≡ counted (tallyOf seen) r
+unfolding tallyOf counted
+tally-snoc seen r = simp (kind-snoc, rules-snoc)
 
 module _ (limits : Limits) (rs : List JobRecord) (i : ℕ) (h : i < length rs) where
   -- record i is not refused
@@ -68,6 +79,10 @@ module _ (limits : Limits) (rs : List JobRecord) (i : ℕ) (h : i < length rs) w
       → firstFault limits (take i rs) (drop i rs) ≡ refused n i
   unfolding firstFault
   refuses n e z = rw (drop-cons rs i noRecord, e, ne-eqb n 0 z, length-take-le i rs (le-of-lt h))
+
+-- the answer of all checks of the records
+abbrev pub answerOf : Limits → Bool → List JobRecord → Checked
+answerOf limits needed rs = orElse (firstFault limits [] rs) (missing needed rs)
 
 -- what is known where the walk stands at record i, with those before it counted
 pub record Walked (limits : Limits) (rs : List JobRecord) (i : ℕ) (seen : Tally) : Type 0 where
@@ -83,13 +98,9 @@ pub tally-within : (limits : Limits) (rs : List JobRecord) (i : ℕ) (seen : Tal
     → (seen .rules ≤ i) × (seen .starts ≤ i) × (seen .initials ≤ i)
 unfolding tallyOf
 tally-within limits rs i seen w h =
-    rw (w .tally) (omega (arith, counts-within byteS (take i rs), counts-within byteI (take i rs), length-take-le i rs h))
+    rw (w .tally) (omega (arith, kind-within byteS (take i rs), kind-within byteI (take i rs), rules-within (take i rs), length-take-le i rs h))
 
--- the answer of all checks of the records
-abbrev pub answerOf : Limits → Bool → List JobRecord → Checked
-answerOf limits needed rs = orElse (firstFault limits [] rs) (missing needed rs)
-
--- and once record i is read and its form looked at
+-- and once record i is read and its form is looked at
 pub record Read (limits : Limits) (rs : List JobRecord) (i : ℕ) (seen : Tally) (r : JobRecord) (form : ℕ) : Type 0 where
   pub walked : Walked limits rs i seen
   pub below : i < length rs

@@ -4,10 +4,10 @@ use crate::JobRecord;
 use crate::Limits;
 use crate::Tally;
 use crate::format;
+use crate::one_if;
 ghost use mathlib.Core.Path.{_≡_};
-ghost use mathlib.Core.Bool.{Bool, true, false};
-ghost use mathlib.Core.List.{List, []};
-ghost use Prim.Native.Nat.{_+_, _*_, _<_, _≤_, _%_};
+ghost use mathlib.Core.List.{[]};
+ghost use Prim.Native.Nat.{_+_, _<_, _≤_, _%_};
 ghost use lib.ListN.{length};
 ghost use Rattle.job.specs.Format.{recordsOf};
 ghost use Rattle.job.specs.Check.{checkOf, firstFault, missing, orElse};
@@ -56,9 +56,9 @@ pub fn count_in(seen: Tally, r: JobRecord) -> Tally
     ensures { λ t. ⌜ t ≡ counted seen r ⌝ }
 {
     Tally {
-        rules: seen.rules + crate::one_if(format::is_rule(r)) as usize,
-        starts: seen.starts + crate::one_if(r.kind == b'S') as usize,
-        initials: seen.initials + crate::one_if(r.kind == b'I') as usize,
+        rules: seen.rules + one_if(format::is_rule(r)) as usize,
+        starts: seen.starts + one_if(r.kind == b'S') as usize,
+        initials: seen.initials + one_if(r.kind == b'I') as usize,
     }
 }
 

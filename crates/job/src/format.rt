@@ -3,9 +3,7 @@ use crate::FieldClass;
 use crate::JobRecord;
 use crate::Limits;
 ghost use mathlib.Core.Path.{_≡_};
-ghost use mathlib.Core.Bool.{Bool, cond, not};
 ghost use Prim.Native.Nat.{_+_, _*_, _<_, _≤_};
-ghost use lib.Dec.{eqb};
 ghost use lib.ListN.{length, getD};
 ghost use Rattle.job.specs.Format.{rowOf, classAt, inClass, fieldsFit, same, isRule, recordsOf};
 ghost use Rattle.job.specs.Order.{noRecord};
@@ -109,16 +107,16 @@ pub fn record_at(job: &[u8], i: usize) -> JobRecord
     }
 }
 
-// Whether record i of a job is the four bytes of r. The last byte differs most often, so it is compared first.
+// Whether record i of a job is the four bytes of r. Field 2 takes the most values, so it is compared first.
 pub fn alike(job: &[u8], i: usize, r: JobRecord) -> bool
     requires { ⌜ 4 * i + 4 ≤ length (now job) ⌝ }
     ensures { λ ok. ⌜ ok ≡ same (getD (recordsOf (now (job .entry))) i noRecord) r ⌝ }
 {
     let at = 4 * i;
-    if job[at + 3] != r.third {
+    if job[at + 2] != r.second {
         return false;
     }
-    if job[at + 2] != r.second {
+    if job[at + 3] != r.third {
         return false;
     }
     if job[at + 1] != r.first {

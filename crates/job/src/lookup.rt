@@ -1,9 +1,10 @@
 // What the records of a job say: the number of states, the start symbol, the initial and the final states.
 use crate::JobRecord;
 use crate::format;
+use crate::one_if;
 ghost use mathlib.Core.Path.{_≡_};
-ghost use Prim.Native.Nat.{ℕ, _+_, _*_, _<_, _≤_, max};
-ghost use lib.ListN.{length, getD};
+ghost use Prim.Native.Nat.{ℕ, _+_, _<_, max};
+ghost use lib.ListN.{getD};
 ghost use Rattle.grammar.specs.Counting.{one-if};
 ghost use Rattle.job.specs.Format.{recordsOf, has};
 ghost use Rattle.job.specs.Job.{fieldOf, statesIn, statesOf, jobOf};
@@ -94,7 +95,7 @@ pub fn final_states(job: &[u8]) -> [u8; 32]
             second: 0,
             third: 0,
         };
-        flags[q as usize] = crate::one_if(has_record(job, r));
+        flags[q as usize] = one_if(has_record(job, r));
         q += 1;
     }
     flags

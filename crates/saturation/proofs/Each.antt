@@ -1,10 +1,10 @@
 -- `each` changes a list element by element: each place of the result is that of the list, changed. By induction on the list. Assumes nothing.
-use mathlib.Core.Path.{_≡_, refl, sym, _∙_, ap, ap₂}
-use mathlib.Core.List.{List, [], _∷_, _++_}
+use mathlib.Core.Path.{_≡_, refl, _∙_, ap, ap₂}
+use mathlib.Core.List.{List, [], _∷_}
 use Prim.Native.Nat.{ℕ, zero, suc, _+_, _≤_, _<_}
 use native.Mathlib.Nat.{add-zero, add-suc, suc-add}
 use native.Mathlib.Omega.{arith}
-use lib.ListN.{length, getD, take, drop, List·getD-eq-default}
+use lib.ListN.{length, getD, take, drop}
 use Rattle.saturation.specs.Table.{each}
 
 pub length-each : (f : ℕ → ℕ → ℕ) (i : ℕ) (l : List ℕ) → length (each f i l) ≡ length l

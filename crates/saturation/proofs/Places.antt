@@ -1,5 +1,5 @@
 -- A place and its three parts determine each other: division by 2048 and 32 takes apart what the sum put together. Assumes nothing.
-use mathlib.Core.Path.{_≡_, refl}
+use mathlib.Core.Path.{_≡_}
 use Prim.Native.Nat.{ℕ, _<_}
 use native.Mathlib.Omega.{arith}
 use Rattle.saturation.specs.Table.{tableSize, reasonsSize, place, fromState, symbolAt, toState, reasonPlace, reasonState, reasonVariable}

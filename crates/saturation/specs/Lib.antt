@@ -8,3 +8,5 @@ pub mod Smallest
 pub mod Reasons
 pub mod Theorems
 pub mod Parts
+pub mod Offering
+pub mod StartParts

@@ -1,12 +1,12 @@
 -- The whole outcome of start and advance, for every input: the answer and what is lent afterwards. Assumes nothing.
 use Prim.Native.Nat.{ℕ}
-use mathlib.Core.Bool.{Bool, true, false, cond}
+use mathlib.Core.Bool.{true, false, cond}
 use mathlib.Core.List.{List}
 use lib.Dec.{eqb, ltb}
 use lib.ListN.{length}
 use Rattle.job.specs.declared.Checked.{Checked}
 use Rattle.job.specs.Check.{checkOf, refused, accepted, orElse}
-use Rattle.job.specs.Job.{Job, jobOf}
+use Rattle.job.specs.Job.{jobOf}
 use Rattle.job.specs.Show.{fullLimits}
 use Rattle.saturation.specs.declared.Started.{Started}
 use Rattle.saturation.specs.declared.Advanced.{Advanced}
@@ -55,23 +55,23 @@ advanceOf job m n =
     cond (eqb (machineCheck job m .number) 0)
     (record {
       answer =
-        record {
-          number = 0;
-          place = 0;
-          finished = isFinished (steps (jobOf job) n m .table);
-          steps = stepsMade (jobOf job) n m;
-          meetings = meetingsMade (jobOf job) n m
-        };
-      lent = steps (jobOf job) n m
+          record {
+            number = 0;
+            place = 0;
+            finished = isFinished (steps (jobOf job) n m .table);
+            steps = stepsMade (jobOf job) n m;
+            meetings = meetingsMade (jobOf job) n m;
+          };
+      lent = steps (jobOf job) n m;
     })
     (record {
       answer =
-        record {
-          number = machineCheck job m .number;
-          place = machineCheck job m .place;
-          finished = false;
-          steps = 0;
-          meetings = 0
-        };
-      lent = m
+          record {
+            number = machineCheck job m .number;
+            place = machineCheck job m .place;
+            finished = false;
+            steps = 0;
+            meetings = 0;
+          };
+      lent = m;
     })

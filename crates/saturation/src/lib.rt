@@ -1,8 +1,12 @@
 // Saturation: the table and the reasons, start, and advance by a counted number of steps.
-pub mod pending;
-pub mod index;
+pub mod begin;
 pub mod clear;
 pub mod finished;
+pub mod index;
+pub mod operations;
+pub mod pending;
+pub mod run;
+pub mod step;
 pub mod theorems;
 
 // What start answers: a refusal's number and place, 0 and 0 where nothing is refused, and the number of states.

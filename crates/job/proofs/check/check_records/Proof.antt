@@ -1,15 +1,14 @@
 -- `check::check_records`. The walk's invariant: the records before i are counted, and the first refusal is that of the records from i on.
 -- The search's: none of the first j records is record i. Each way on and out is a law of `Walk`. Assumes nothing.
-use mathlib.Core.Path.{_≡_, sym, _∙_, subst}
-use mathlib.Core.Bool.{Bool, true, false}
+use mathlib.Core.Path.{_≡_, sym, _∙_}
+use mathlib.Core.Bool.{false}
 use mathlib.Core.Logic.{⊎-elim}
-use Prim.Native.Nat.{ℕ, _+_, _*_, _-_, _/_, _≤_, _<_}
+use Prim.Native.Nat.{_-_, _≤_, _<_}
 use native.Mathlib.Numerals.{add-one}
 use native.Mathlib.Omega.{arith}
-use lib.ListN.{length, getD, take}
+use lib.ListN.{length, take}
 use borrow.Author.Needs.{needs}
 use Rattle.job.specs.Format.{recordsOf, has}
-use Rattle.job.specs.Order.{noRecord}
 use Rattle.job.proofs.Records.{records-counted}
 use Rattle.job.proofs.Earlier.{none-so-far, has-at}
 use Rattle.job.proofs.Walk.{Walked, Read, walked-none, walked-on, walked-all, tally-within, by-form, by-repeat, by-order}
@@ -76,7 +75,9 @@ loop-again c =
     )
 
 returns-2 : tie.Need-returns-2 Inv-loop μ-loop Inv-walk μ-walk
-returns-2 c = let d = c .before .before in by-order (read (d .before .before .before)) _ (d .before .before .if1 .left) (none-before d) (c .before .order-fault .ensures) (c .if3 .taken)
+returns-2 c =
+    let d = c .before .before in
+    by-order (read (d .before .before .before)) _ (d .before .before .if1 .left) (none-before d) (c .before .order-fault .ensures) (c .if3 .taken)
 
 count-in-requires : tie.Need-count-in-requires Inv-loop μ-loop Inv-walk μ-walk
 count-in-requires c κs =

@@ -1,6 +1,6 @@
 -- `show::show_refused`: where the check answers 3 to 7 the part is the record that it names, which stands in the job. Assumes nothing.
-use mathlib.Core.Path.{_≡_, refl, sym, ap, _∙_}
-use mathlib.Core.Bool.{Bool, false, and-false}
+use mathlib.Core.Path.{_≡_}
+use mathlib.Core.Bool.{false, and-false}
 use mathlib.Core.List.{List, []}
 use Prim.Native.Nat.{ℕ, _+_, _-_, _*_, _≤_, _<_}
 use native.Mathlib.Omega.{arith}
@@ -37,12 +37,25 @@ module _ (c : Checked) (l : Limits) (job : List ℕ) (full : l ≡ fullLimits) (
         let four : 4 * c .place + 4 - 4 * c .place ≡ 4 = omega arith in
         rw (four, ← by-full, le-leb 3 (c .number) h, le-leb (c .number) 7 k)
 
-ruleset ways = (below-three, above-seven, shown)
+returns : tie.Need-returns
+returns c =
+    let d = c .before .before in
+    below-three (d .check .result) _ _ (d .before .full-limits .ensures) (d .check .ensures) (c .before .if1 .taken)
+
+returns-2 : tie.Need-returns-2
+returns-2 c =
+    let d = c .before .before .before in
+    above-seven (d .check .result) _ _ (d .before .full-limits .ensures) (d .check .ensures) (c .before .if2 .taken)
 
 named : (c : tie.Else2) → 4 * c .before .before .check .result .place + 4 ≤ length (c .before .before .before .before .before .args .job .now)
 named c =
     let d = c .before .before in
-    stands (d .check .result) (d .before .full-limits .result) _ (d .before .full-limits .ensures) (d .check .ensures) (c .before .if1 .left) (c .if2 .left)
+    stands (d .check .result) _ _ (d .before .full-limits .ensures) (d .check .ensures) (omega arith) (omega arith)
+
+returns-3 : tie.Need-returns-3
+returns-3 c =
+    let d = c .before .before .before in
+    shown (d .check .result) _ _ (d .before .full-limits .ensures) (d .check .ensures) (omega arith) (omega arith)
 
 pub show-refused-spec : {M : Type 1} → statement M
 show-refused-spec =
@@ -53,14 +66,14 @@ show-refused-spec =
     (λ c. search needs)
     (λ c. search needs)
     (λ c. search needs)
-    (λ c. search ways)
+    returns
     (λ c. search needs)
     (λ c. search needs)
     (λ c. search needs)
-    (λ c. search ways)
+    returns-2
     (λ c. omega (arith, named c))
     (λ c. omega (arith, named c))
     (λ c. search needs)
     (λ c. search needs)
     (λ c. omega (arith, named c))
-    (λ c. search ways))
+    returns-3)

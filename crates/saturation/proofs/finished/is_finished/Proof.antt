@@ -1,6 +1,6 @@
 -- `finished::is_finished` meets its contract. The loop's invariant: the places passed so far are searched in vain. Assumes nothing.
 use mathlib.Core.Path.{sym}
-use Prim.Native.Nat.{_-_, _≤_}
+use Prim.Native.Nat.{_-_, _≤_, _<_}
 use native.Mathlib.Omega.{arith}
 use borrow.Author.Tests.{eq-eqb, ne-eqb}
 use Rattle.saturation.specs.Table.{tableSize}
@@ -18,7 +18,7 @@ abbrev μ-loop : tie.MeasureT-loop
 returns : tie.Need-returns Inv-loop μ-loop
 returns c =
     let h = c .before .before .before in
-    let l = c .before .before .loop-test .taken in
+    let l : h .loop .i < tableSize = omega arith in
     sym
     (found-unfinished _ _ (h .before .pre) l (lowest-stop _ _ _ _ (omega arith) l l (h .loop .inv .1) (eq-eqb _ _ (c .if1 .taken))))
 

@@ -1,0 +1,62 @@
+-- Explain from start to end: a refusal leaves all as it was; else the job is started and run, and the form is explained on the table that this
+-- leaves. Assumes nothing.
+use mathlib.Core.Path.{_≡_, sym, _∙_, ap}
+use mathlib.Core.Bool.{true, false}
+use mathlib.Core.List.{List}
+use Prim.Native.Nat.{ℕ, _≤_}
+use lib.ListN.{length}
+use borrow.Author.Tests.{eq-eqb, ne-eqb}
+use Rattle.job.specs.declared.Checked.{Checked}
+use Rattle.job.specs.Check.{checkOf, accepted}
+use Rattle.job.specs.Job.{jobOf}
+use Rattle.job.specs.Show.{fullLimits}
+use Rattle.saturation.specs.Table.{Lent, tableSize, reasonsSize}
+use Rattle.saturation.specs.Start.{started}
+use Rattle.saturation.specs.Advance.{steps}
+use Rattle.saturation.proofs.StartLaws.{started-length, started-length-reasons}
+use Rattle.forms.specs.Parts.{FormFits}
+use Rattle.forms.specs.Operations.{explainCheck, ExplainOutcome, explainLeaves, explainFinished, explainOf}
+use Rattle.forms.specs.ExplainParts.{Explainable}
+use Rattle.forms.proofs.ExplainChecks.{explain-passed}
+use Rattle.forms.proofs.Unlisted.{run-explainable}
+
+-- what start and run ask
+abbrev pub MayRun : List ℕ → Lent → Type 0
+MayRun job m = (tableSize ≤ length (m .table)) × (reasonsSize ≤ length (m .reasons)) × (checkOf fullLimits true job ≡ accepted)
+
+module _ (job : List ℕ) (m : Lent) (form : List ℕ) {c : Checked} (checked : c ≡ explainCheck job m form) where
+  pub refuses :
+      (out : List ℕ) → (c .number ≡ 0 → ⊥) →
+      explainLeaves (record { number = c .number; place = c .place; accepted = false; records = 0 }) m out ≡ explainOf job m form out
+  unfolding explainOf
+  refuses out refusal = rw (← checked, ne-eqb (c .number) 0 refusal)
+
+  -- nothing is refused
+  module _ (none : c .number ≡ 0) where
+    pub may-start : MayRun job m
+    may-start = let p = explain-passed job m form c checked none .0 in (p .long, p .long-reasons, p .ok)
+
+    -- the job is started
+    module _ {m₁ : Lent} (begun : m₁ ≡ started (jobOf job) m) where
+      pub may-run : MayRun job m₁
+      may-run = (
+        rw (begun, started-length (jobOf job) m) (may-start .0),
+        rw (begun, started-length-reasons (jobOf job) m) (may-start .1),
+        may-start .2,
+      )
+
+      -- and run
+      module _ {m₂ : Lent} (ran : m₂ ≡ steps (jobOf job) 65536 m₁) where
+        finished : m₂ ≡ steps (jobOf job) 65536 (started (jobOf job) m)
+        finished = ran ∙ ap (steps (jobOf job) 65536) begun
+
+        pub may-explain : Explainable job m₂ × FormFits form
+        may-explain =
+            let (p, fits) = explain-passed job m form c checked none in
+            (rw finished (run-explainable job m p 65536), fits)
+
+        pub explains :
+            (out : List ℕ) {after : ExplainOutcome} → after ≡ explainFinished (jobOf job) m₂ form out → after ≡ explainOf job m form out
+        unfolding explainOf
+        explains out e =
+            rw (eq-eqb (explainCheck job m form .number) 0 (ap (λ k. k .number) (sym checked) ∙ none), ← finished) e

@@ -1,0 +1,106 @@
+-- The checks of a form by what holds of its symbols: it is refused at the first byte over 63, and fits where there is none. Assumes nothing.
+use mathlib.Core.Path.{_≡_, refl, sym, _∙_, ap}
+use mathlib.Core.Bool.{true}
+use mathlib.Core.List.{List, [], _∷_}
+use Prim.Native.Nat.{ℕ, zero, suc, _+_, _≤_, _<_, suc-le-suc}
+use native.Mathlib.Nat.{add-zero, add-suc, suc-add}
+use native.Mathlib.Omega.{arith}
+use borrow.Author.Tests.{lt-ltb, le-ltb, ltb-false, eq-eqb, ne-eqb}
+use lib.Dec.{ltb}
+use lib.ListN.{length, getD}
+use Rattle.grammar.proofs.Basics.{cases}
+use Rattle.job.specs.declared.Checked.{Checked}
+use Rattle.job.specs.Check.{checkOf, refused, accepted, orElse}
+use Rattle.job.proofs.Accepted.{accepted-by-number}
+use Rattle.job.proofs.JobChecks.{both-pass, not-short}
+use Rattle.saturation.specs.Operations.{shortTable}
+use Rattle.job.specs.Show.{fullLimits}
+use Rattle.saturation.specs.Table.{tableSize}
+use Rattle.forms.specs.Operations.{firstOver, formCheck, askCheck}
+use Rattle.forms.specs.Parts.{SymbolsFit, FormFits}
+
+-- the symbols before a position fit
+abbrev pub FitBefore : List ℕ → ℕ → Type 0
+FitBefore w i = (k : ℕ) → k < i → getD w k 0 ≤ 63
+
+fit-tail : (x : ℕ) (w : List ℕ) (i : ℕ) → FitBefore (x ∷ w) (suc i) → FitBefore w i
+fit-tail x w i fits k h = fits (suc k) (suc-le-suc h)
+
+over-at : (w : List ℕ) (base i : ℕ) → FitBefore w i → i < length w → 63 < getD w i 0 → firstOver base w ≡ refused 11 (base + i)
+unfolding firstOver
+over-at [] base i fits below over = absurd (omega arith)
+over-at (x ∷ w) base zero fits below over = rw (lt-ltb 63 x over, add-zero)
+over-at (x ∷ w) base (suc i) fits below over =
+    rw (le-ltb 63 x (fits zero (omega arith)))
+    (over-at w (suc base) i (fit-tail x w i fits) (omega arith) over ∙ ap (refused 11) (suc-add base i ∙ sym (add-suc base i)))
+
+none-over : (w : List ℕ) (base : ℕ) → SymbolsFit w → firstOver base w ≡ accepted
+unfolding firstOver
+none-over [] base fits = refl
+none-over (x ∷ w) base fits =
+    rw (le-ltb 63 x (fits zero (omega arith))) (none-over w (suc base) (λ i h. fits (suc i) (suc-le-suc h)))
+
+fits-first : (x : ℕ) (w : List ℕ) → x ≤ 63 → SymbolsFit w → SymbolsFit (x ∷ w)
+fits-first x w h rest zero below = h
+fits-first x w h rest (suc i) below = rest i (omega arith)
+
+fit-of-none : (w : List ℕ) (base : ℕ) → firstOver base w .number ≡ 0 → SymbolsFit w
+unfolding firstOver
+fit-of-none [] base none = λ i below. absurd (omega arith)
+fit-of-none (x ∷ w) base none =
+    cases (ltb 63 x) (λ over. absurd (let z : _≡_ {A = ℕ} 11 0 = rw over at none in omega arith))
+    (λ fits. fits-first x w (ltb-false 63 x fits) (fit-of-none w (suc base) (rw fits at none)))
+
+pub form-too-long : (w : List ℕ) → 64 < length w → formCheck w ≡ refused 12 (length w)
+unfolding formCheck
+form-too-long w h = rw (lt-ltb 64 (length w) h)
+
+pub form-over : (w : List ℕ) (i : ℕ) → length w ≤ 64 → FitBefore w i → i < length w → 63 < getD w i 0 → formCheck w ≡ refused 11 i
+unfolding formCheck
+form-over w i short fits below over = rw (le-ltb 64 (length w) short) (over-at w 0 i fits below over ∙ ap (refused 11) (omega arith))
+
+pub form-fits : (w : List ℕ) → length w ≤ 64 → SymbolsFit w → formCheck w ≡ accepted
+unfolding formCheck
+form-fits w short fits = rw (le-ltb 64 (length w) short) (none-over w 0 fits)
+
+-- a form that is not refused fits
+pub fits-of-check : (w : List ℕ) → formCheck w .number ≡ 0 → FormFits w
+unfolding formCheck
+fits-of-check w none =
+    cases (ltb 64 (length w)) (λ long. absurd (let z : _≡_ {A = ℕ} 12 0 = rw long at none in omega arith))
+    (λ short. record { short = ltb-false 64 (length w) short; symbols = fit-of-none w 0 (rw short at none) })
+
+-- the ways through the checks of ask: a short table, a refused job, and the form's own
+pub ask-short : (job table form : List ℕ) → length table < tableSize → askCheck job table form ≡ refused 10 1
+unfolding askCheck
+ask-short job table form h = rw (lt-ltb (length table) tableSize h)
+
+pub ask-job :
+    (job table form : List ℕ) (c : Checked) → tableSize ≤ length table → c ≡ checkOf fullLimits true job → (c .number ≡ 0 → ⊥) →
+    askCheck job table form ≡ c
+unfolding askCheck
+ask-job job table form c long e refusal =
+    rw (le-ltb (length table) tableSize long, ← e, ne-eqb (c .number) 0 refusal)
+
+pub ask-form :
+    (job table form : List ℕ) (c : Checked) → tableSize ≤ length table → c ≡ checkOf fullLimits true job → c .number ≡ 0 →
+    askCheck job table form ≡ formCheck form
+unfolding askCheck
+ask-form job table form c long e none = rw (le-ltb (length table) tableSize long, ← e, eq-eqb (c .number) 0 none)
+
+-- what ask has made sure of where it refuses nothing
+pub record AskPassed (job table form : List ℕ) : Type 0 where
+  pub long : tableSize ≤ length table
+  pub job-accepted : checkOf fullLimits true job ≡ accepted
+  pub form-fits : FormFits form
+
+pub ask-passed : (job table form : List ℕ) → askCheck job table form .number ≡ 0 → AskPassed job table form
+unfolding askCheck
+ask-passed job table form e =
+    let (c, f) = both-pass (orElse (shortTable table) (checkOf fullLimits true job)) (formCheck form) e in
+    let (t, j) = both-pass (shortTable table) (checkOf fullLimits true job) c in
+    record {
+      long = ltb-false (length table) tableSize (not-short (ltb (length table) tableSize) 1 t);
+      job-accepted = accepted-by-number fullLimits true job j;
+      form-fits = fits-of-check form f;
+    }

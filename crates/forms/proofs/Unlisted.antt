@@ -1,0 +1,72 @@
+-- A table that a start and steps have written has no byte 3, as a start writes 0 and 1 and a step 2 and 1; and its reasons lead down. So a form can
+-- be explained on it. Assumes nothing.
+use mathlib.Core.Path.{_≡_, refl}
+use mathlib.Core.Bool.{Bool, true, false, cond, _&&_, _||_}
+use mathlib.Core.List.{List}
+use Prim.Native.Nat.{ℕ, _≤_, _<_}
+use native.Mathlib.Omega.{arith}
+use lib.Dec.{eqb, leb}
+use lib.ListN.{length, getD}
+use borrow.Author.Tests.{lt-leb}
+use Rattle.job.specs.Job.{Job, jobOf}
+use Rattle.saturation.specs.Table.{Lent, tableSize, fromState, symbolAt, toState, isAbsent}
+use Rattle.saturation.specs.Start.{started, startByte, isEmptyAt}
+use Rattle.saturation.specs.Step.{lowest, offered, byteAfter, taking}
+use Rattle.saturation.specs.Advance.{steps}
+use Rattle.saturation.proofs.MachineChecks.{Passed}
+use Rattle.saturation.proofs.AcceptedInRange.{accepted-in-range}
+use Rattle.saturation.proofs.Each.{getD-each-0}
+use Rattle.saturation.proofs.Taking.{taking-length}
+use Rattle.saturation.proofs.StartLaws.{started-length, started-length-reasons}
+use Rattle.saturation.proofs.StepLaws.{steps-keep, steps-length-reasons}
+use Rattle.saturation.proofs.StartReasons.{run-reasons-fit}
+use Rattle.forms.specs.ListingParts.{isListed}
+use Rattle.forms.specs.ExplainParts.{Explainable}
+use Rattle.forms.proofs.Grounding.{grounded-by-reasons}
+
+-- a byte picked from bytes that are not 3
+picked : (b : Bool) (x y : ℕ) → eqb x 3 ≡ false → eqb y 3 ≡ false → eqb (cond b x y) 3 ≡ false
+picked true x y e f = e
+picked false x y e f = f
+
+-- full size, and nothing listed
+record Unlisted (m : Lent) : Type 0 where
+  long : tableSize ≤ length (m .table)
+  none-listed : (p : ℕ) → p < tableSize → isListed (m .table) p ≡ false
+
+started-unlisted : (J : Job) (m : Lent) → tableSize ≤ length (m .table) → Unlisted (started J m)
+unfolding started
+started-unlisted J m long =
+    record {
+      long = omega (arith, long, started-length J m);
+      none-listed = λ p h.
+          rw (getD-each-0 (startByte J) (m .table) p (omega (arith, long)), lt-leb tableSize p h)
+          (picked (J .given (fromState p) (symbolAt p) (toState p) || isEmptyAt J (fromState p) (symbolAt p) (toState p)) 1 0 refl refl);
+    }
+
+taking-unlisted : (J : Job) (k : ℕ) (m : Lent) → Unlisted m → Unlisted (taking J k m)
+unfolding taking
+taking-unlisted J k m u =
+    record {
+      long = omega (arith, u .long, taking-length J k m);
+      none-listed = λ p h.
+          let old : ℕ = getD (m .table) p 0 in
+          let new : Bool = isAbsent old && leb 1 (offered J (m .table) k (fromState p) (symbolAt p) (toState p)) in
+          rw (getD-each-0 (byteAfter J (m .table) k) (m .table) p (omega (arith, u .long)), lt-leb tableSize p h)
+          (picked (eqb p k) 2 (cond new 1 old) refl (picked new 1 old refl (u .none-listed p h)));
+    }
+
+-- a form can be explained after any number of steps
+pub run-explainable : (job : List ℕ) (m : Lent) → Passed job m → (n : ℕ) → Explainable job (steps (jobOf job) n (started (jobOf job) m))
+run-explainable job m passed n =
+    let J : Job = jobOf job in
+    let range = accepted-in-range true job (passed .ok) in
+    let u = steps-keep Unlisted J (λ m' f. taking-unlisted J (lowest (m' .table)) m') n (started J m) (started-unlisted J m (passed .long)) in
+    record {
+      long = u .long;
+      reasons-long = omega (arith, passed .long-reasons, started-length-reasons J m, steps-length-reasons J n (started J m));
+      job-accepted = passed .ok;
+      grounded =
+          grounded-by-reasons J range (steps J n (started J m)) (run-reasons-fit J range m (passed .long) (passed .long-reasons) n);
+      none-listed = u .none-listed;
+    }

@@ -1,0 +1,122 @@
+-- The path of a walk, last place first: heights rise along it, so no place stands on it twice, and as all are variables' it fits its array.
+-- Assumes nothing.
+use mathlib.Core.Path.{_≡_, refl, sym, _∙_, ap, ap₂}
+use mathlib.Core.Logic.{⊎-elim}
+use mathlib.Core.Bool.{false}
+use mathlib.Core.List.{Memᴰ·of-map, List, [], _∷_, map, List·Memᴰ, List·Memᴰ·head, List·Memᴰ·tail, List·Memᴰ·cases-cons, List·Memᴰ·not-nil}
+use Prim.Native.Nat.{ℕ, zero, suc, _+_, _-_, _≤_, _<_}
+use native.Mathlib.Numerals.{add-one}
+use native.Mathlib.Omega.{arith}
+use lib.Dec.{eqb}
+use lib.ListN.{length, getD, set, length-map}
+use lib.Seq.{getD-set-same, getD-set-other}
+use Rattle.grammar.specs.CountingTheorems.{NoRepeat}
+use Rattle.grammar.proofs.NoRepeat.{no-repeat-map}
+use Rattle.saturation.specs.Table.{tableSize, reasonsSize, fromState, symbolAt, toState, place, reasonPlace, reasonState, reasonVariable}
+use Rattle.saturation.proofs.Places.{to-state-below, place-of-parts, reason-state-place, reason-variable-place, to-state-reason-place}
+use Rattle.forms.specs.ListingParts.{isListed, DonePlace}
+use Rattle.forms.proofs.Distinct.{no-more-than}
+
+-- a place of a path: done, a variable's, not listed, and lower than those before it
+pub record Link (height : ℕ → ℕ) (t now : List ℕ) (p : ℕ) (ps : List ℕ) : Type 0 where
+  pub done : DonePlace t p
+  pub is-variable : symbolAt p < 32
+  pub unlisted : isListed now p ≡ false
+  pub lowest : (q : ℕ) → List·Memᴰ q ps → height p < height q
+
+pub data Chain (height : ℕ → ℕ) (t now : List ℕ) : List ℕ → Type 0 where
+  end : Chain height t now []
+  link : {p : ℕ} {ps : List ℕ} → Link height t now p ps → Chain height t now ps → Chain height t now (p ∷ ps)
+
+module _ {height : ℕ → ℕ} {t now : List ℕ} where
+  chain-apart : {ps : List ℕ} → Chain height t now ps → NoRepeat ps
+  unfolding NoRepeat
+  chain-apart Chain.end = tt
+  chain-apart (Chain.link {p = p} a c) = (λ m. let low : height p < height p = a .lowest p m in omega arith, chain-apart c)
+
+  pub chain-link : {ps : List ℕ} → Chain height t now ps → (q : ℕ) → List·Memᴰ q ps → DonePlace t q × (symbolAt q < 32)
+  chain-link Chain.end q m = absurd (List·Memᴰ·not-nil m)
+  chain-link (Chain.link a c) q m =
+      ⊎-elim (λ e. rw e (a .done, a .is-variable)) (λ m'. chain-link c q m') (List·Memᴰ·cases-cons m)
+
+  pub chain-top : {p : ℕ} {ps : List ℕ} → Chain height t now (p ∷ ps) → Link height t now p ps
+  chain-top (Chain.link a c) = a
+
+  pub chain-rest : {p : ℕ} {ps : List ℕ} → Chain height t now (p ∷ ps) → Chain height t now ps
+  chain-rest (Chain.link a c) = c
+
+  -- another place's mark leaves the path as it is
+  pub chain-kept :
+      (x : ℕ) {ps : List ℕ} → ((q : ℕ) → List·Memᴰ q ps → q ≡ x → ⊥) → Chain height t now ps → Chain height t (set now x 3) ps
+  chain-kept x other Chain.end = Chain.end
+  chain-kept x other (Chain.link {p = p} a c) =
+      Chain.link
+      (record {
+        done = a .done;
+        is-variable = a .is-variable;
+        unlisted = ap (λ z. eqb z 3) (getD-set-other now x p 3 0 (other p (List·Memᴰ·head refl))) ∙ a .unlisted;
+        lowest = a .lowest;
+      })
+      (chain-kept x (λ q m. other q (List·Memᴰ·tail m)) c)
+
+  -- a path is no longer than there are transitions of variables
+  pub chain-fits : {ps : List ℕ} → Chain height t now ps → length ps ≤ reasonsSize
+  chain-fits {ps} c =
+      omega (
+        arith,
+        no-more-than
+            reasonsSize
+            (map at ps)
+            (no-repeat-map at ps (λ p q m k e. same p q (chain-link c p m) (chain-link c q k) e) (chain-apart c))
+            (λ i m. let (p, k, e) = Memᴰ·of-map at ps m in rw (← e) (inside p (chain-link c p k))),
+        length-map ps at,
+      )
+    where
+      at : ℕ → ℕ
+      at p = reasonPlace (fromState p) (symbolAt p) (toState p)
+
+      from : ℕ → ℕ
+      from r = place (reasonState r) (reasonVariable r) (toState r)
+
+      back : (p : ℕ) → p < tableSize → symbolAt p < 32 → p ≡ from (at p)
+      back p h v =
+          let q : ℕ = fromState p in
+          let A : ℕ = symbolAt p in
+          let r : ℕ = toState p in
+          sym (place-of-parts p h)
+          ∙ ap (λ z. place z A r) (sym (reason-state-place q A r v (to-state-below p)))
+          ∙ ap (λ z. place (reasonState (at p)) z r) (sym (reason-variable-place q A r v (to-state-below p)))
+          ∙ ap (λ z. place (reasonState (at p)) (reasonVariable (at p)) z) (sym (to-state-reason-place q A r (to-state-below p)))
+
+      same : (p q : ℕ) → DonePlace t p × (symbolAt p < 32) → DonePlace t q × (symbolAt q < 32) → at p ≡ at q → p ≡ q
+      same p q a b e = back p (a .0 .within) (a .1) ∙ ap from e ∙ sym (back q (b .0 .within) (b .1))
+
+      inside : (p : ℕ) → DonePlace t p × (symbolAt p < 32) → at p < reasonsSize
+      inside p d = omega arith
+
+-- the path in its array
+unfoldable pub onPath : List ℕ → ℕ → List ℕ
+onPath path zero = []
+onPath path (suc d) = getD path d 0 ∷ onPath path d
+
+pub path-length : (path : List ℕ) (d : ℕ) → length (onPath path d) ≡ d
+unfolding onPath
+path-length path zero = refl
+path-length path (suc d) = ap suc (path-length path d)
+
+-- its last place, and the rest
+pub path-top : (path : List ℕ) (d : ℕ) → 0 < d → onPath path d ≡ getD path (d - 1) 0 ∷ onPath path (d - 1)
+unfolding onPath
+path-top path zero h = absurd (omega arith)
+path-top path (suc d) h = ap (λ k. getD path k 0 ∷ onPath path k) (omega arith)
+
+-- a place put behind it
+path-kept : (path : List ℕ) (i x d : ℕ) → d ≤ i → onPath (set path i x) d ≡ onPath path d
+unfolding onPath
+path-kept path i x zero h = refl
+path-kept path i x (suc d) h =
+    ap₂ _∷_ (getD-set-other path i d x 0 (λ e. omega arith)) (path-kept path i x d (omega arith))
+
+pub path-grows : (path : List ℕ) (d x : ℕ) → d < length path → onPath (set path d x) (d + 1) ≡ x ∷ onPath path d
+unfolding onPath
+path-grows path d x h = rw add-one (ap₂ _∷_ (getD-set-same path d x 0 h) (path-kept path d x d (omega arith)))

@@ -1,0 +1,16 @@
+-- `forms::explain::explain_check` meets its contract: each return is a way through the checks. Assumes nothing.
+use mathlib.Core.Path.{_∙_}
+use borrow.Author.Needs.{needs}
+use Rattle.forms.proofs.ExplainChecks.{explain-machine, explain-form}
+use Rattle.forms.proofs.explain.explain_check.Statement.{statement}
+use Rattle.forms.proofs.explain.explain_check.Tie as tie
+
+returns : tie.Need-returns
+returns c = explain-machine _ _ _ _ (c .before .before .machine-check .ensures) (c .if1 .taken)
+
+returns-2 : tie.Need-returns-2
+returns-2 c =
+    c .form-check .ensures ∙ explain-form _ _ _ _ (c .before .before .before .machine-check .ensures) (c .before .if1 .left)
+
+pub explain-check-spec : {M : Type 1} → statement M
+explain-check-spec = tie.close (tie.spec (λ c κs. search needs) returns (λ c κs. search needs) returns-2)

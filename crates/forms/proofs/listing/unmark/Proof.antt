@@ -1,0 +1,80 @@
+-- The invariant: the marks before i are gone, and the rest is as it was. Assumes nothing.
+use Prim.Native.Nat.{_-_, _≤_, _<_}
+use mathlib.Core.Path.{_≡_, _∙_, ap}
+use mathlib.Core.Bool.{cond}
+use lib.Dec.{eqb}
+use lib.ListN.{length, getD, set}
+use native.Mathlib.Omega.{arith}
+use Rattle.saturation.specs.Table.{tableSize, each}
+use Rattle.saturation.proofs.Each.{length-each}
+use Rattle.forms.proofs.Unmarking.{unmarkedTo, unmarked-none, unmarked-next}
+use borrow.Author.Needs.{needs}
+use Rattle.forms.proofs.listing.unmark.Statement.{statement}
+use Rattle.forms.proofs.listing.unmark.Tie as tie
+
+abbrev Inv-loop : tie.InvT-loop
+Inv-loop table₀ i₀ table i = (i ≤ tableSize) × (table ≡ each (unmarkedTo i) 0 table₀)
+
+abbrev μ-loop : tie.MeasureT-loop
+μ-loop table₀ i₀ table i = tableSize - i
+
+loop-holds : tie.Need-loop-holds Inv-loop μ-loop
+loop-holds c = (omega arith, unmarked-none (c .before .args .table .now))
+
+long : (c : tie.After-slice-known2 Inv-loop μ-loop) → c .before .before .loop .i < length (c .before .before .loop .table)
+long c =
+    let l = c .before .before in
+    omega (arith, ap length (l .loop .inv .1), length-each (unmarkedTo (l .loop .i)) 0 (l .before .before .args .table .now), l .before .before .pre, c .before .loop-test .taken)
+
+slice-read-without-mark : tie.Need-slice-read-without-mark Inv-loop μ-loop
+slice-read-without-mark c = long c
+
+without-mark-requires : tie.Need-without-mark-requires Inv-loop μ-loop
+without-mark-requires c κs = search needs
+
+slice-write-table : tie.Need-slice-write-table Inv-loop μ-loop
+slice-write-table c = long (c .before)
+
+add-i : tie.Need-add-i Inv-loop μ-loop
+add-i c = omega arith
+
+loop-less : tie.Need-loop-less Inv-loop μ-loop
+loop-less c = omega arith
+
+loop-again : tie.Need-loop-again Inv-loop μ-loop
+loop-again c =
+    let l = c .before .before .before in
+    let s = l .before .before in
+    let t = s .args .table .now in
+    let i = l .loop .i in (
+      omega arith,
+      ap (λ z. set z i (c .without-mark .result)) (l .loop .inv .1)
+          ∙ unmarked-next t i (c .without-mark .result) (omega (arith, s .pre))
+          (c .without-mark .ensures ∙ ap (λ z. cond (eqb (getD z i 0) 3) 2 (getD z i 0)) (l .loop .inv .1)),
+    )
+
+same-length : tie.Need-same-length Inv-loop μ-loop
+same-length c =
+    let l = c .before in
+    ap length (l .loop .inv .1) ∙ length-each (unmarkedTo (l .loop .i)) 0 (l .before .before .args .table .now)
+
+returns : tie.Need-returns Inv-loop μ-loop
+returns c =
+    let l = c .before in
+    l .loop .inv .1 ∙ ap (λ n. each (unmarkedTo n) 0 (l .before .before .args .table .now)) (omega arith)
+
+pub unmark-spec : {M : Type 1} → statement M
+unmark-spec =
+    tie.close
+    (tie.spec
+    Inv-loop
+    μ-loop
+    loop-holds
+    slice-read-without-mark
+    without-mark-requires
+    slice-write-table
+    add-i
+    loop-less
+    loop-again
+    same-length
+    returns)

@@ -1,0 +1,89 @@
+-- A certificate for a grammar on file, and the test that it certifies all that is said of the grammar: each fact has a test over the
+-- certificate's lists, which the prover computes. Assumes nothing.
+use mathlib.Core.Bool.{Bool, true, false, not, _&&_, Bool·beq}
+use mathlib.Core.List.{List}
+use Prim.Native.Nat.{ℕ}
+use lib.Dec.{eqb}
+use lib.ListN.{length, getD}
+use Rattle.grammar.specs.Rule.{Rule}
+use Rattle.grammar.proofs.CertificateTests.{Triple, every, every-below, has, hasSymbol}
+use Rattle.grammar.proofs.CertificateClosure.{Line, transitions}
+use Rattle.grammar.proofs.CertificateMeetings.{joins}
+use Rattle.grammar.proofs.CertificateSymbols.{generates}
+use Rattle.grammar.proofs.CertificateCycle.{certifiedCycle, certifiedRank}
+use Rattle.grammar.proofs.Certificate.{closureCertified, symbolsCertified}
+use Rattle.grammar.proofs.CertificateVerdicts.{useful}
+use Rattle.job.specs.Format.{recordsOf, fieldsFit}
+use Rattle.job.specs.Format as format
+use Rattle.job.specs.Check.{checkOf, firstFault, fault, countKind, countRules, missing}
+use Rattle.job.specs.Job.{Job, jobOf, jobOfRecords, sortedRules, insert, ruleOf, fieldOf, statesOf}
+use Rattle.job.specs.Show.{fullLimits}
+use Rattle.verdicts.specs.Verdicts.{isNamed, namedIn}
+use Rattle.ropeclover.specs.Filed.{Fact, Filed}
+use Rattle.ropeclover.proofs.FiledGiven.{givenTriples}
+use Rattle.ropeclover.proofs.FiledForms.{finishes}
+
+-- what shows whether a grammar grows: a pair rule from A to X with the symbols of a way back to A; the ranks of the symbols from 0 on, 0 for
+-- those past the list; nothing, where no fact asks for it
+pub data Growth : Type 0 where
+  cycle : (A X : ℕ) (back : List ℕ) → Growth
+  ranks : List ℕ → Growth
+  unsaid : Growth
+
+-- the transitions of the smallest set with the way in which each comes in, the variables that generate, the symbols that are reached
+pub record Certificate : Type 0 where
+  pub lines : List Line
+  pub generating : List ℕ
+  pub reached : List ℕ
+  pub growth : Growth
+
+abbrev pub triplesOf : Certificate → List Triple
+triplesOf c = transitions (c .lines)
+
+-- the growth shows the answer
+abbrev pub shows : (ℕ → Bool) → List Rule → Growth → Bool → Bool
+shows u rs (cycle A X back) true = certifiedCycle u rs A X back
+shows u rs (cycle A X back) false = false
+shows u rs (ranks l) true = false
+shows u rs (ranks l) false = certifiedRank u rs (λ X. getD l X 0)
+shows u rs unsaid answer = false
+
+-- the code of a symbol, by whether it is named, generates and is reached
+abbrev pub codeBy : (named generating reached : Bool) → ℕ
+codeBy false g r = 0
+codeBy true false r = 2
+codeBy true true false = 3
+codeBy true true true = 1
+
+-- the certificate shows a fact of a job; a form starts at an initial state, so an I is needed
+abbrev pub factCertified : Bool → Job → Certificate → Fact → Bool
+factCertified needed J c (Fact.states n) = eqb (J .states) n
+factCertified needed J c (Fact.examined n) = eqb (length (c .lines)) n
+factCertified needed J c (Fact.joins n) = eqb (joins (J .rules) (triplesOf c)) n
+factCertified needed J c (Fact.variablesLead q r As) = every-below (λ A. Bool·beq (has (triplesOf c) q A r) (hasSymbol As A)) 32
+factCertified needed J c (Fact.acceptsForm form answer) = needed && Bool·beq (finishes (triplesOf c) (J .final) form (J .initial)) answer
+factCertified needed J c (Fact.isEmpty answer) = Bool·beq (not (generates (c .generating) (J .start))) answer
+factCertified needed J c (Fact.isGrowing answer) = shows (useful (c .generating) (c .reached)) (J .rules) (c .growth) answer
+factCertified needed J c (Fact.code X n) = eqb (codeBy (isNamed J X) (generates (c .generating) X) (hasSymbol (c .reached) X)) n
+
+-- the checks of the job pass
+unfoldable pub passes : Bool → List ℕ → Bool
+unfolding checkOf firstFault recordsOf fault fieldsFit format.has countKind countRules missing
+passes needed job = eqb (checkOf fullLimits needed job .number) 0 && eqb (checkOf fullLimits needed job .place) 0
+
+-- the lines are the smallest set of the job
+abbrev pub closureTest : (job : List ℕ) → Certificate → Bool
+closureTest job c = closureCertified (jobOf job .rules) (givenTriples (recordsOf job)) (jobOf job .states) (c .lines)
+
+-- the two lists are the variables that generate and the symbols that are reached
+abbrev pub symbolsTest : (job : List ℕ) → Certificate → Bool
+symbolsTest job c = symbolsCertified (jobOf job .rules) (jobOf job .start) (c .generating) (c .reached)
+
+-- and each fact is shown
+abbrev pub factsTest : Filed → Certificate → Bool
+factsTest f c = every (factCertified (f .needed) (jobOf (f .job)) c) (f .facts)
+
+-- the whole test
+unfoldable pub certifies : Filed → Certificate → Bool
+unfolding passes jobOf jobOfRecords sortedRules insert ruleOf fieldOf statesOf givenTriples closureCertified symbolsCertified joins finishes certifiedCycle certifiedRank useful namedIn
+certifies f c = passes (f .needed) (f .job) && (closureTest (f .job) c && (symbolsTest (f .job) c && factsTest f c))

@@ -1,0 +1,160 @@
+-- The starred grammars on file, as one list with one claim over it. Assumes nothing.
+use mathlib.Core.Path.{_≡_}
+use mathlib.Core.Logic.{_↔_}
+use Prim.Native.Nat.{ℕ, _<_}
+use mathlib.Core.Bool.{Bool, true, false}
+use mathlib.Core.List.{List, [], _∷_, _++_, List·Memᴰ}
+use Rattle.grammar.specs.Counting.{meetings}
+use Rattle.job.specs.Format.{byteE, byteU, byteP, byteT, byteI, byteF, byteS}
+use Rattle.job.specs.Check.{checkOf, accepted}
+use Rattle.job.specs.Job.{Job, jobOf}
+use Rattle.job.specs.Show.{fullLimits}
+use Rattle.saturation.specs.Smallest.{Smallest, DecidesSmallest, SmallestCount}
+use Rattle.verdicts.specs.Verdicts.{CodeIs, Says, EmptyIs, GrowingIs}
+use Rattle.ropeclover.specs.FinishedTables.{DerivesGiven}
+
+-- what document 01 says of a grammar on file
+pub data Fact : Type 0 where
+  states : ℕ → Fact
+  examined : ℕ → Fact
+  joins : ℕ → Fact
+  variablesLead : (q r : ℕ) (As : List ℕ) → Fact
+  acceptsForm : (form : List ℕ) (answer : Bool) → Fact
+  isEmpty : Bool → Fact
+  isGrowing : Bool → Fact
+  code : (X c : ℕ) → Fact
+
+-- when it is right, by the definitions: the number of states; the number of transitions of the smallest set, which are all examined; its pair
+-- meetings; which variables lead from one state to another; whether a form derives a string of the automaton; the verdicts
+abbrev pub Right : Job → Fact → Type 0
+Right J (states n) = J .states ≡ n
+Right J (examined n) = SmallestCount J n
+Right J (joins n) = (test : ℕ → ℕ → ℕ → Bool) → DecidesSmallest J test → meetings test 32 (J .rules) ≡ n
+Right J (variablesLead q r As) = (A : ℕ) → A < 32 → Smallest J q A r ↔ List·Memᴰ A As
+Right J (acceptsForm form answer) = Says answer (DerivesGiven J form)
+Right J (isEmpty answer) = EmptyIs J answer
+Right J (isGrowing answer) = GrowingIs J answer
+Right J (code X c) = CodeIs J X c
+
+-- a grammar on file: whether it has an automaton, the bytes of its job, and the facts
+pub record Filed : Type 0 where
+  pub needed : Bool
+  pub job : List ℕ
+  pub facts : List Fact
+
+unfoldable pub AllRight : Job → List Fact → Type 0
+AllRight J [] = Unit {0}
+AllRight J (fact ∷ facts) = Right J fact × AllRight J facts
+
+unfoldable pub AllFiledRight : List Filed → Type 0
+AllFiledRight [] = Unit {0}
+AllFiledRight (filed ∷ rest) =
+    (checkOf fullLimits (filed .needed) (filed .job) ≡ accepted) × AllRight (jobOf (filed .job)) (filed .facts) × AllFiledRight rest
+
+-- 01, The report program: the job and its six lines
+abbrev pub reportJob : Filed
+reportJob =
+    record {
+      needed = true;
+      job =
+          byteS ∷ 0 ∷ 0 ∷ 0 ∷ byteU ∷ 0 ∷ 32 ∷ 0 ∷ byteP ∷ 0 ∷ 1 ∷ 1 ∷ byteP ∷ 1 ∷ 0 ∷ 1 ∷ byteU ∷ 1 ∷ 33 ∷ 0
+          ∷ byteI ∷ 0 ∷ 0 ∷ 0 ∷ byteF ∷ 2 ∷ 0 ∷ 0 ∷ byteT ∷ 0 ∷ 32 ∷ 1 ∷ byteT ∷ 1 ∷ 33 ∷ 2 ∷ byteT ∷ 2 ∷ 32 ∷ 1 ∷ [];
+      facts = states 3 ∷ examined 11 ∷ joins 8 ∷ acceptsForm (0 ∷ []) true ∷ isEmpty false ∷ isGrowing true ∷ [];
+    }
+
+-- 001's grammar with A 0, B 1, C 2, D 3, S 4, T 5, X 6, a 32, b 33, and baabab as a chain of 7 states: "29 done; S and X lead from 0 to 6; no
+-- variable leads from 1 to 3"
+abbrev pub chainJob : Filed
+chainJob =
+    record {
+      needed = true;
+      job =
+          byteS ∷ 4 ∷ 0 ∷ 0 ∷ byteP ∷ 4 ∷ 5 ∷ 5 ∷ byteP ∷ 4 ∷ 0 ∷ 2 ∷ byteP ∷ 5 ∷ 0 ∷ 2 ∷ byteP ∷ 5 ∷ 3 ∷ 0
+          ∷ byteP ∷ 5 ∷ 0 ∷ 1 ∷ byteP ∷ 5 ∷ 1 ∷ 0 ∷ byteP ∷ 2 ∷ 6 ∷ 1 ∷ byteP ∷ 3 ∷ 1 ∷ 6 ∷ byteP ∷ 6 ∷ 5 ∷ 5
+          ∷ byteP ∷ 6 ∷ 0 ∷ 1 ∷ byteP ∷ 6 ∷ 1 ∷ 0 ∷ byteU ∷ 0 ∷ 32 ∷ 0 ∷ byteU ∷ 1 ∷ 33 ∷ 0
+          ∷ byteI ∷ 0 ∷ 0 ∷ 0 ∷ byteF ∷ 6 ∷ 0 ∷ 0 ∷ byteT ∷ 0 ∷ 33 ∷ 1 ∷ byteT ∷ 1 ∷ 32 ∷ 2 ∷ byteT ∷ 2 ∷ 32 ∷ 3
+          ∷ byteT ∷ 3 ∷ 33 ∷ 4 ∷ byteT ∷ 4 ∷ 32 ∷ 5 ∷ byteT ∷ 5 ∷ 33 ∷ 6 ∷ [];
+      facts = states 7 ∷ examined 29 ∷ variablesLead 0 6 (4 ∷ 6 ∷ []) ∷ variablesLead 1 3 [] ∷ [];
+    }
+
+-- 003, Example 25.5 with S 0, A 1, B 2, C 3, a 32, b 33, c 34: "not growing"
+abbrev pub finiteJob : Filed
+finiteJob =
+    record {
+      needed = false;
+      job =
+          byteS ∷ 0 ∷ 0 ∷ 0 ∷ byteP ∷ 0 ∷ 1 ∷ 2 ∷ byteP ∷ 1 ∷ 2 ∷ 3 ∷ byteU ∷ 1 ∷ 32 ∷ 0 ∷ byteU ∷ 2 ∷ 33 ∷ 0
+          ∷ byteU ∷ 3 ∷ 34 ∷ 0 ∷ [];
+      facts = isGrowing false ∷ [];
+    }
+
+-- 003, Example 25.6: "growing; C and c have code 3"
+abbrev pub infiniteJob : Filed
+infiniteJob =
+    record {
+      needed = false;
+      job =
+          byteS ∷ 0 ∷ 0 ∷ 0 ∷ byteP ∷ 0 ∷ 1 ∷ 2 ∷ byteP ∷ 1 ∷ 2 ∷ 0 ∷ byteU ∷ 1 ∷ 32 ∷ 0 ∷ byteU ∷ 2 ∷ 33 ∷ 0
+          ∷ byteU ∷ 3 ∷ 34 ∷ 0 ∷ [];
+      facts = isGrowing true ∷ code 3 3 ∷ code 34 3 ∷ [];
+    }
+
+-- "S → a, X → b: X and b have code 3", with X 1
+abbrev pub asideJob : Filed
+asideJob =
+    record {
+      needed = false;
+      job = byteS ∷ 0 ∷ 0 ∷ 0 ∷ byteU ∷ 0 ∷ 32 ∷ 0 ∷ byteU ∷ 1 ∷ 33 ∷ 0 ∷ [];
+      facts = code 1 3 ∷ code 33 3 ∷ [];
+    }
+
+-- "S → AB, A → a only: empty; S and B 2, A and a 3", with A 1, B 2
+abbrev pub emptyJob : Filed
+emptyJob =
+    record {
+      needed = false;
+      job = byteS ∷ 0 ∷ 0 ∷ 0 ∷ byteP ∷ 0 ∷ 1 ∷ 2 ∷ byteU ∷ 1 ∷ 32 ∷ 0 ∷ [];
+      facts = isEmpty true ∷ code 0 2 ∷ code 2 2 ∷ code 1 3 ∷ code 32 3 ∷ [];
+    }
+
+-- "S → ε, state 0 initial and final: examined 1, joins 0. With S → SS added: examined 1, joins 1. Empty form on that job: accepted; without the
+-- F record, not."
+abbrev pub epsilonRecords : List ℕ
+epsilonRecords = byteS ∷ 0 ∷ 0 ∷ 0 ∷ byteE ∷ 0 ∷ 0 ∷ 0 ∷ byteI ∷ 0 ∷ 0 ∷ 0 ∷ []
+
+abbrev pub finalZero : List ℕ
+finalZero = byteF ∷ 0 ∷ 0 ∷ 0 ∷ []
+
+abbrev pub doubling : List ℕ
+doubling = byteP ∷ 0 ∷ 0 ∷ 0 ∷ []
+
+abbrev pub epsilonJob : Filed
+epsilonJob =
+    record {
+      needed = true;
+      job = epsilonRecords ++ finalZero;
+      facts = examined 1 ∷ joins 0 ∷ acceptsForm [] true ∷ [];
+    }
+
+abbrev pub epsilonUnfinal : Filed
+epsilonUnfinal = record { needed = true; job = epsilonRecords; facts = acceptsForm [] false ∷ [] }
+
+abbrev pub doublingJob : Filed
+doublingJob =
+    record {
+      needed = true;
+      job = epsilonRecords ++ finalZero ++ doubling;
+      facts = examined 1 ∷ joins 1 ∷ acceptsForm [] true ∷ isGrowing true ∷ [];
+    }
+
+abbrev pub doublingUnfinal : Filed
+doublingUnfinal = record { needed = true; job = epsilonRecords ++ doubling; facts = acceptsForm [] false ∷ [] }
+
+-- 01, Grammars on file, those marked *
+abbrev pub filedGrammars : List Filed
+filedGrammars =
+    reportJob ∷ chainJob ∷ finiteJob ∷ infiniteJob ∷ asideJob ∷ emptyJob ∷ epsilonJob ∷ epsilonUnfinal ∷ doublingJob ∷ doublingUnfinal ∷ []
+
+-- 01: "The starred grammars form one list, proved from the definitions by one claim over it."
+unfoldable pub FiledGrammars : Type 0
+FiledGrammars = AllFiledRight filedGrammars

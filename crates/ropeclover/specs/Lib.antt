@@ -1,0 +1,7 @@
+pub mod Call
+pub mod FinishedTables
+pub mod Alike
+pub mod Counts
+pub mod TwoRuns
+pub mod Filed
+pub mod Exports

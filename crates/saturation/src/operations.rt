@@ -1,0 +1,74 @@
+// Start and advance, for every input.
+use crate::Advanced;
+use crate::Started;
+use crate::begin;
+use crate::finished;
+use crate::run;
+use job::Checked;
+ghost use mathlib.Core.Path.{_≡_};
+ghost use Rattle.saturation.specs.Operations.{machineCheck, startOf, advanceOf, startLeaves, advanceLeaves};
+ghost use Rattle.saturation.specs.Parts.{lentOf};
+
+// The checks of start and advance: short buffers, then the job's.
+pub fn machine_check(job: &[u8], table: &[u8], reasons: &[u16]) -> Checked
+    ensures { λ c. ⌜ c ≡ machineCheck (now (job .entry)) (lentOf (now (table .entry)) (now (reasons .entry))) ⌝ }
+{
+    if table.len() < 65536 {
+        return Checked {
+            number: 10,
+            place: 1,
+        };
+    }
+    if reasons.len() < 32768 {
+        return Checked {
+            number: 10,
+            place: 2,
+        };
+    }
+    job::check::check(job, job::show::full_limits(), true)
+}
+
+// Writes the table and the reasons that a job starts from, and answers its number of states.
+pub fn start(job: &[u8], table: &mut [u8], reasons: &mut [u16]) -> Started
+    ensures { λ r. ⌜ startLeaves r (lentOf (now (table .exit)) (now (reasons .exit))) ≡ startOf (now (job .entry)) (lentOf (now (table .entry)) (now (reasons .entry))) ⌝ }
+{
+    let c = machine_check(job, table, reasons);
+    if c.number != 0 {
+        return Started {
+            number: c.number,
+            place: c.place,
+            states: 0,
+        };
+    }
+    let states = begin::begin(job, table, reasons);
+    Started {
+        number: 0,
+        place: 0,
+        states,
+    }
+}
+
+// Makes at most n steps on a table, whatever it holds.
+pub fn advance(job: &[u8], table: &mut [u8], reasons: &mut [u16], n: u64) -> Advanced
+    ensures { λ r. ⌜ advanceLeaves r (lentOf (now (table .exit)) (now (reasons .exit))) ≡ advanceOf (now (job .entry)) (lentOf (now (table .entry)) (now (reasons .entry))) n ⌝ }
+{
+    let c = machine_check(job, table, reasons);
+    if c.number != 0 {
+        return Advanced {
+            number: c.number,
+            place: c.place,
+            finished: false,
+            steps: 0,
+            meetings: 0,
+        };
+    }
+    let counts = run::run(job, table, reasons, n);
+    let finished = finished::is_finished(table);
+    Advanced {
+        number: 0,
+        place: 0,
+        finished,
+        steps: counts.steps,
+        meetings: counts.meetings,
+    }
+}

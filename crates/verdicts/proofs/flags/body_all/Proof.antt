@@ -1,0 +1,51 @@
+-- `verdicts::flags::body_all` meets its contract: each way out follows the body as its key has it. Assumes nothing.
+use mathlib.Core.Path.{sym}
+use mathlib.Core.Bool.{and-true}
+use borrow.Author.Needs.{needs}
+use borrow.Author.Tests.{eq-eqb, ne-eqb}
+use Rattle.verdicts.specs.Flags.{allFlagged}
+use Rattle.verdicts.proofs.KeyRules.{key-body}
+use Rattle.verdicts.proofs.flags.body_all.Statement.{statement}
+use Rattle.verdicts.proofs.flags.body_all.Tie as tie
+
+returns : tie.Need-returns
+unfolding allFlagged
+returns c = rw (key-body, eq-eqb _ _ (c .if1 .taken))
+
+returns-2 : tie.Need-returns-2
+unfolding allFlagged
+returns-2 c = rw (key-body, ne-eqb _ _ (c .before .before .if1 .left), ne-eqb _ _ (c .if2 .taken))
+
+returns-3 : tie.Need-returns-3
+unfolding allFlagged
+returns-3 c =
+    rw (
+      key-body,
+      ne-eqb _ _ (c .before .before .before .if1 .left),
+      eq-eqb _ _ (c .before .if2 .left),
+      eq-eqb _ _ (c .if3 .taken),
+    )
+
+returns-4 : tie.Need-returns-4
+unfolding allFlagged
+returns-4 c =
+    rw (
+      key-body,
+      ne-eqb _ _ (c .before .before .before .before .if1 .left),
+      eq-eqb _ _ (c .before .before .if2 .left),
+      ne-eqb _ _ (c .before .if3 .left),
+    )
+    (sym (and-true _))
+
+pub body-all-spec : {M : Type 1} → statement M
+body-all-spec =
+    tie.close
+    (tie.spec
+    (λ c. search needs)
+    (λ c. search needs)
+    returns
+    (λ c. search needs)
+    returns-2
+    returns-3
+    (λ c. search needs)
+    returns-4)

@@ -1,0 +1,36 @@
+-- `verdicts::flags::flag_only` meets its contract: the first i places are filled. Assumes nothing.
+use Prim.Native.Nat.{_-_}
+use native.Mathlib.Omega.{arith}
+use borrow.Author.Needs.{needs}
+use lib.Dec.{eqb}
+use Rattle.grammar.specs.Counting.{one-if}
+use Rattle.verdicts.proofs.Filling.{Filling, filling-none, filling-more, filling-whole}
+use Rattle.verdicts.proofs.flags.flag_only.Statement.{statement}
+use Rattle.verdicts.proofs.flags.flag_only.Tie as tie
+
+abbrev Inv-loop : tie.InvT-loop
+Inv-loop flags₀ symbol i₀ flags i = Filling (λ k. one-if (eqb symbol k)) 64 flags₀ flags i
+
+abbrev μ-loop : tie.MeasureT-loop
+μ-loop flags₀ symbol i₀ flags i = 64 - i
+
+loop-again : tie.Need-loop-again Inv-loop μ-loop
+loop-again c = filling-more (c .before .before .loop .inv) (omega arith) (c .before .loop-test .taken) (c .one-if .ensures)
+
+returns : tie.Need-returns Inv-loop μ-loop
+returns c = filling-whole (c .before .loop .inv) (c .before .before .pre) (c .loop-test .left)
+
+pub flag-only-spec : {M : Type 1} → statement M
+flag-only-spec =
+    tie.close
+    (tie.spec
+    Inv-loop
+    μ-loop
+    (λ c. filling-none)
+    (λ c κs. search needs)
+    (λ c. omega arith)
+    (λ c. omega arith)
+    (λ c. omega arith)
+    (λ c. omega arith)
+    loop-again
+    returns)

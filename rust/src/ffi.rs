@@ -1,0 +1,55 @@
+//! The exports of the library, as include/ropeclover.h declares them.
+
+extern "C" {
+    pub fn ropeclover_start(
+        job: *const u8,
+        job_len: usize,
+        table: *mut u8,
+        table_len: usize,
+        reasons: *mut u16,
+        reasons_len: usize,
+        answer: *mut u64,
+    );
+    pub fn ropeclover_advance(
+        job: *const u8,
+        job_len: usize,
+        table: *mut u8,
+        table_len: usize,
+        reasons: *mut u16,
+        reasons_len: usize,
+        n: u64,
+        answer: *mut u64,
+    );
+    pub fn ropeclover_ask(
+        job: *const u8,
+        job_len: usize,
+        table: *const u8,
+        table_len: usize,
+        form: *const u8,
+        form_len: usize,
+        answer: *mut u64,
+    );
+    pub fn ropeclover_explain(
+        job: *const u8,
+        job_len: usize,
+        table: *mut u8,
+        table_len: usize,
+        reasons: *mut u16,
+        reasons_len: usize,
+        form: *const u8,
+        form_len: usize,
+        listing: *mut u8,
+        listing_len: usize,
+        answer: *mut u64,
+    );
+    pub fn ropeclover_verdicts(
+        job: *const u8,
+        job_len: usize,
+        table: *mut u8,
+        table_len: usize,
+        codes: *mut u8,
+        codes_len: usize,
+        answer: *mut u64,
+    );
+    pub fn ropeclover_show(job: *const u8, job_len: usize, answer: *mut u64);
+}

@@ -1,0 +1,67 @@
+//! Ask, explain and the report's start line against Cocke, Kasami and Younger, on random grammars in Chomsky normal form and chains of up to 31
+//! symbols.
+mod support;
+
+use ropeclover::Workspace;
+use std::collections::BTreeSet;
+use support::cky::{self, Grammar};
+use support::{seed, Random};
+
+fn grammar(random: &mut Random) -> Grammar {
+    let variables = 2 + random.below(6);
+    let letters = 1 + random.below(3);
+    let mut pairs = BTreeSet::new();
+    let mut terminals = BTreeSet::new();
+    for _ in 0..2 + random.below(14) {
+        pairs.insert((random.byte_below(variables), random.byte_below(variables), random.byte_below(variables)));
+    }
+    for _ in 0..2 + random.below(5) {
+        terminals.insert((random.byte_below(variables), 32 + random.byte_below(letters)));
+    }
+    Grammar { pairs: pairs.into_iter().collect(), terminals: terminals.into_iter().collect() }
+}
+
+fn job(random: &mut Random, grammar: &Grammar, word: &[u8]) -> Vec<u8> {
+    let mut records: Vec<[u8; 4]> = vec![[b'S', 0, 0, 0], [b'I', 0, 0, 0], [b'F', word.len() as u8, 0, 0]];
+    records.extend(grammar.pairs.iter().map(|(a, b, c)| [b'P', *a, *b, *c]));
+    records.extend(grammar.terminals.iter().map(|(a, x)| [b'U', *a, *x, 0]));
+    records.extend(word.iter().enumerate().map(|(i, x)| [b'T', i as u8, *x, i as u8 + 1]));
+    random.shuffle(&mut records);
+    records.concat()
+}
+
+#[test]
+fn words_are_derived_as_cky_says() {
+    let mut random = seed("words_are_derived_as_cky_says");
+    let mut workspace = Workspace::new();
+    let mut accepted = 0;
+    for _ in 0..2_000 {
+        let grammar = grammar(&mut random);
+        let longest = if random.one_in(4) { 31 } else { 8 };
+        let length = 1 + random.below(longest);
+        let word: Vec<u8> = (0..length).map(|_| random.pick(&grammar.terminals).1).collect();
+        let job = job(&mut random, &grammar, &word);
+        let expected = cky::derives(&grammar, 0, &word);
+        accepted += expected as usize;
+        let report = workspace.report(&job).unwrap();
+        assert_eq!(report.start, expected);
+        let explanation = workspace.explain(&job, &[0]).unwrap();
+        assert_eq!(explanation.accepted, expected);
+        // Every variable and every part of the word: M[i][j] of 001.
+        let sets = cky::sets(&grammar, &word);
+        let done = |q: usize, a: usize, r: usize| workspace.table()[q * 2048 + a * 32 + r] >= 2;
+        for i in 0..length {
+            for d in 0..length - i {
+                for a in 0..32 {
+                    assert_eq!(done(i, a, i + d + 1), sets[i][d] >> a & 1 == 1);
+                }
+            }
+        }
+        // Forms of several variables, by splitting the word.
+        let form = [random.byte_below(8), random.byte_below(8)];
+        let split = (1..length).any(|k| sets[0][k - 1] >> form[0] & 1 == 1 && sets[k][length - k - 1] >> form[1] & 1 == 1);
+        assert_eq!(workspace.ask(&job, &form).unwrap(), split);
+    }
+    println!("{accepted} of 2000 words accepted");
+    assert!(accepted > 100, "too few accepted words to mean anything");
+}

@@ -1,0 +1,97 @@
+//! Listings replayed: each record's rule is a rule of the job, its premises stand before it, and the given transitions that it rests on spell a
+//! string of the automaton that the form derives.
+mod support;
+
+use ropeclover::listing::{Reason, Record, Transition};
+use ropeclover::Workspace;
+use std::collections::HashMap;
+use support::{jobs, seed};
+
+/// The given symbols that a transition derives, by the records before it; long ones are cut off.
+fn replay(job: &[u8], records: &[Record]) -> HashMap<Transition, Vec<u8>> {
+    let has = |record: [u8; 4]| job.chunks(4).any(|r| r == record);
+    let mut derived: HashMap<Transition, Vec<u8>> = HashMap::new();
+    for record in records {
+        let (from, symbol, to) = record.transition;
+        assert!(!derived.contains_key(&record.transition), "listed twice");
+        let mut string = vec![];
+        match record.reason {
+            Reason::Given => assert!(has([b'T', from, symbol, to])),
+            Reason::Empty => assert!(has([b'E', symbol, 0, 0]) && from == to),
+            Reason::Unit(x) => assert!(has([b'U', symbol, x, 0])),
+            Reason::Pair(b, c, _) => assert!(has([b'P', symbol, b, c])),
+        }
+        if record.reason == Reason::Given {
+            string.push(symbol);
+        }
+        for premise in record.premises() {
+            string.extend(derived.get(&premise).expect("a premise stands after what it explains"));
+        }
+        string.truncate(2_000);
+        derived.insert(record.transition, string);
+    }
+    derived
+}
+
+/// Whether the given automaton reads a string from a state to another.
+fn reads(job: &[u8], from: u8, string: &[u8], to: u8) -> bool {
+    let mut states = vec![from];
+    for x in string {
+        states = job
+            .chunks(4)
+            .filter(|r| r[0] == b'T' && r[2] == *x && states.contains(&r[1]))
+            .map(|r| r[3])
+            .collect();
+        states.sort();
+        states.dedup();
+    }
+    states.contains(&to)
+}
+
+#[test]
+fn listings_replay_into_derivations() {
+    let mut random = seed("listings_replay_into_derivations");
+    let mut workspace = Workspace::new();
+    let mut accepted = 0;
+    for _ in 0..1_500 {
+        let job = jobs::accepted(&mut random);
+        let form = jobs::form(&mut random);
+        let Ok(explanation) = workspace.explain(&job, &form) else { continue };
+        let derived = replay(&job, &explanation.records);
+        for ((from, _, to), string) in &derived {
+            if string.len() < 2_000 {
+                assert!(reads(&job, *from, string, *to));
+            }
+        }
+        accepted += explanation.accepted as usize;
+        let listed = workspace.table().iter().filter(|byte| **byte == 3).count();
+        assert_eq!(listed, explanation.records.len());
+    }
+    assert!(accepted > 50, "too few accepted forms to mean anything");
+}
+
+/// A chain of reasons tens of thousands long: S leads around a ring of states, each step one symbol further, in a thread with a small stack.
+#[test]
+fn a_long_chain_of_reasons_needs_no_stack() {
+    // 32 variables in a unit chain over a table of 32 states: V0 → V1 → .. → V31 → a, and V31 → V31 V31 around a ring.
+    let mut job: Vec<u8> = vec![b'S', 0, 0, 0, b'I', 0, 0, 0, b'F', 0, 0, 0];
+    for a in 0..31 {
+        job.extend([b'U', a, a + 1, 0]);
+    }
+    job.extend([b'U', 31, 32, 0, b'P', 31, 31, 0]);
+    for q in 0..32 {
+        job.extend([b'T', q, 32, (q + 1) % 32]);
+    }
+    let records = std::thread::Builder::new()
+        .stack_size(1024 * 1024)
+        .spawn(move || {
+            let mut workspace = Workspace::new();
+            // All forms of one variable, asked for the longest listing.
+            (0..32).map(|a| workspace.explain(&job, &[a]).unwrap().records.len()).max().unwrap()
+        })
+        .unwrap()
+        .join()
+        .unwrap();
+    println!("{records} records");
+    assert!(records > 1_000);
+}

@@ -1,0 +1,103 @@
+/* Calls each function of the library from C, on the job of document 01's report and on refused ones. Prints 'N passed, M failed'. */
+#include "ropeclover.h"
+
+#include <stdio.h>
+#include <string.h>
+
+static int passed, failed;
+
+static void same(const char *what, uint64_t found, uint64_t expected)
+{
+    if (found == expected) {
+        passed++;
+        return;
+    }
+    failed++;
+    printf("%s: found %llu, expected %llu\n", what, (unsigned long long)found, (unsigned long long)expected);
+}
+
+static const uint8_t job[] = {
+    'S', 0, 0, 0, 'U', 0, 32, 0, 'P', 0, 1, 1, 'P', 1, 0, 1, 'U', 1, 33, 0, 'I', 0, 0, 0, 'F', 2, 0, 0, 'T', 0, 32, 1, 'T', 1, 33, 2,
+    'T', 2, 32, 1,
+};
+
+static uint8_t table[ROPECLOVER_TABLE_BYTES];
+static uint16_t reasons[ROPECLOVER_REASONS];
+
+static void saturates(void)
+{
+    uint64_t answer[5];
+    ropeclover_start(job, sizeof job, table, sizeof table, reasons, ROPECLOVER_REASONS, answer);
+    same("start refused", answer[0], 0);
+    same("states", answer[2], 3);
+    ropeclover_advance(job, sizeof job, table, sizeof table, reasons, ROPECLOVER_REASONS, 5, answer);
+    same("steps", answer[3], 5);
+    same("finished", answer[2], 0);
+    uint64_t meetings = answer[4];
+    ropeclover_advance(job, sizeof job, table, sizeof table, reasons, ROPECLOVER_REASONS, UINT64_MAX, answer);
+    same("steps to the end", answer[3], 6);
+    same("finished at the end", answer[2], 1);
+    same("meetings in all", meetings + answer[4], 8);
+    const uint8_t form[] = {0};
+    ropeclover_ask(job, sizeof job, table, sizeof table, form, 1, answer);
+    same("accepted", answer[2], 1);
+}
+
+static void explains(void)
+{
+    uint64_t answer[4];
+    uint8_t listing[256];
+    const uint8_t form[] = {32, 33};
+    const uint8_t expected[] = {0, 32, 1, 'G', 0, 0, 0, 0, 1, 33, 2, 'G', 0, 0, 0, 0};
+    memset(listing, 7, sizeof listing);
+    ropeclover_explain(job, sizeof job, table, sizeof table, reasons, ROPECLOVER_REASONS, form, 2, listing, sizeof listing, answer);
+    same("explained", answer[2], 1);
+    same("records", answer[3], 2);
+    same("listing", (uint64_t)memcmp(listing, expected, sizeof expected), 0);
+    same("past the listing", listing[16], 7);
+    ropeclover_explain(job, sizeof job, table, sizeof table, reasons, ROPECLOVER_REASONS, form, 2, listing, 15, answer);
+    same("short listing", answer[0], 13);
+    same("records needed", answer[1], 2);
+}
+
+static void judges(void)
+{
+    uint64_t answer[4];
+    uint8_t codes[ROPECLOVER_CODES];
+    ropeclover_verdicts(job, sizeof job, table, sizeof table, codes, sizeof codes, answer);
+    same("empty", answer[2], 0);
+    same("growing", answer[3], 1);
+    same("code of a variable", codes[1], 1);
+    same("code of an unnamed symbol", codes[63], 0);
+    same("table is cleared", table[32 * 1 + 1], 0);
+}
+
+static void refuses(void)
+{
+    uint64_t answer[4];
+    uint8_t codes[ROPECLOVER_CODES];
+    ropeclover_start(job, sizeof job, table, 65535, reasons, ROPECLOVER_REASONS, answer);
+    same("short table", answer[0] * 100 + answer[1], 1001);
+    ropeclover_verdicts(job, sizeof job, table, sizeof table, codes, 63, answer);
+    same("short codes", answer[0] * 100 + answer[1], 1003);
+    ropeclover_verdicts(job, 39, table, sizeof table, codes, 64, answer);
+    same("39 bytes", answer[0] * 100 + answer[1], 109);
+    uint8_t bad[sizeof job];
+    memcpy(bad, job, sizeof job);
+    bad[8] = 'X';
+    ropeclover_show(bad, sizeof bad, answer);
+    same("shown at", answer[0], 8);
+    same("shown bytes", answer[1], 4);
+    ropeclover_show(job, sizeof job, answer);
+    same("nothing to show", answer[1], 0);
+}
+
+int main(void)
+{
+    saturates();
+    explains();
+    judges();
+    refuses();
+    printf("%d passed, %d failed\n", passed, failed);
+    return failed != 0;
+}
