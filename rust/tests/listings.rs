@@ -70,28 +70,30 @@ fn listings_replay_into_derivations() {
     assert!(accepted > 50, "too few accepted forms to mean anything");
 }
 
-/// A chain of reasons tens of thousands long: S leads around a ring of states, each step one symbol further, in a thread with a small stack.
+/// A chain of reasons over 20,000 long, in a thread with a small stack. Variable k < 27 walks along the states r of (q, k, r) by k → k 29, and at
+/// state 31 goes on to variable k + 1 at state 0; from variable 26 the walk goes on at q + 1, by 27 → 28 26 and 0 → 27. So each transition
+/// rests on the one before, from (0, 0, 0), which is given, to (31, 26, 31).
 #[test]
 fn a_long_chain_of_reasons_needs_no_stack() {
-    // 32 variables in a unit chain over a table of 32 states: V0 → V1 → .. → V31 → a, and V31 → V31 V31 around a ring.
-    let mut job: Vec<u8> = vec![b'S', 0, 0, 0, b'I', 0, 0, 0, b'F', 0, 0, 0];
-    for a in 0..31 {
-        job.extend([b'U', a, a + 1, 0]);
+    let mut job: Vec<u8> = vec![b'S', 26, 0, 0, b'I', 31, 0, 0, b'F', 31, 0, 0, b'T', 0, 0, 0, b'T', 31, 30, 0];
+    for k in 0..27 {
+        job.extend([b'P', k, k, 29]);
     }
-    job.extend([b'U', 31, 32, 0, b'P', 31, 31, 0]);
-    for q in 0..32 {
-        job.extend([b'T', q, 32, (q + 1) % 32]);
+    for k in 0..26 {
+        job.extend([b'P', k + 1, k, 30]);
     }
-    let records = std::thread::Builder::new()
+    job.extend([b'P', 27, 28, 26, b'U', 0, 27, 0]);
+    for q in 0..31 {
+        job.extend([b'T', q, 29, q + 1, b'T', q + 1, 28, q]);
+    }
+    let explanation = std::thread::Builder::new()
         .stack_size(1024 * 1024)
-        .spawn(move || {
-            let mut workspace = Workspace::new();
-            // All forms of one variable, asked for the longest listing.
-            (0..32).map(|a| workspace.explain(&job, &[a]).unwrap().records.len()).max().unwrap()
-        })
+        .spawn(move || Workspace::new().explain(&job, &[26]).map(|explanation| (job, explanation)).unwrap())
         .unwrap()
         .join()
         .unwrap();
-    println!("{records} records");
-    assert!(records > 1_000);
+    let (job, explanation) = explanation;
+    println!("{} records", explanation.records.len());
+    assert!(explanation.records.len() > 20_000);
+    replay(&job, &explanation.records);
 }
