@@ -1,4 +1,4 @@
-// Runs the checks of a job on the cases of document 01 that need no more than them, and writes a line for each: number and place of the
+// Runs the checks of a job on cases that need no more than them, and writes a line for each: number and place of the
 // answer, then the bytes of the record that showing gives back, if any.
 use job::JobRecord;
 ghost use Prim.Native.Nat.{_+_, _*_, _≤_};
@@ -110,8 +110,8 @@ fn lengths() {
     fill(&mut job, 4097, b'T');
     put(&mut job, 0, start());
     report_first(&job, 39, true);
-    report_first(&job, 16384, true);
-    report_first(&job, 16384, false);
+    report_first(&job, job::JOB_BYTES, true);
+    report_first(&job, job::JOB_BYTES, false);
     report_first(&job, 16387, false);
     report_first(&job, 16388, false);
 }
@@ -119,7 +119,7 @@ fn lengths() {
 // 256 rules and an S, then 257.
 fn rules() {
     let mut job = io::large_buffer();
-    fill(&mut job, 256, b'P');
+    fill(&mut job, job::RULES, b'P');
     put(&mut job, 256, start());
     report_first(&job, 1028, false);
     fill(&mut job, 257, b'P');

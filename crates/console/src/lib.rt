@@ -1,8 +1,10 @@
-// What the programs share: reading a job from standard input, and writing lines.
+// What the programs share: reading a job from standard input, and writing a text to standard output.
 use libc::STDIN_FILENO;
 use libc::STDOUT_FILENO;
+ghost use mathlib.Core.Path.{_≡_};
 ghost use Prim.Native.Nat.{_≤_};
 ghost use lib.ListN.{length};
+ghost use Rattle.console.specs.Part.{firstBytes};
 
 // How reading ended: whether no read failed, and how many bytes were read.
 pub struct Input {
@@ -12,7 +14,7 @@ pub struct Input {
 
 // Reads standard input until the buffer is full or the input ends.
 pub fn read_input(buf: &mut [u8]) -> Input
-    ensures { λ r. ⌜ r .len ≤ length (now (buf .exit)) ⌝ }
+    ensures within { λ r. ⌜ r .len ≤ length (now (buf .exit)) ⌝ }
 {
     let mut len = 0;
     while len < buf.len() {
@@ -29,37 +31,20 @@ pub fn read_input(buf: &mut [u8]) -> Input
     Input { ok: true, len }
 }
 
-// A line 'WORD N'.
-pub fn number_line(word: &[u8], n: u64) {
-    io::write_all(STDOUT_FILENO, word);
-    io::write_all(STDOUT_FILENO, b" ");
-    io::print_decimal(STDOUT_FILENO, n);
-    io::write_all(STDOUT_FILENO, b"\n");
-}
-
-// A line 'WORD yes' or 'WORD no'.
-pub fn answer_line(word: &[u8], yes: bool) {
-    io::write_all(STDOUT_FILENO, word);
-    if yes {
-        io::write_all(STDOUT_FILENO, b" yes\n");
-    } else {
-        io::write_all(STDOUT_FILENO, b" no\n");
-    }
-}
-
-// The line 'refused N at P'.
-pub fn refused_line(number: usize, place: usize) {
-    io::write_all(STDOUT_FILENO, b"refused ");
-    io::print_decimal(STDOUT_FILENO, number as u64);
-    io::write_all(STDOUT_FILENO, b" at ");
-    io::print_decimal(STDOUT_FILENO, place as u64);
-    io::write_all(STDOUT_FILENO, b"\n");
-}
-
 // The first n bytes of a buffer, none where it has fewer.
-pub fn part(buf: &[u8], n: usize) -> &[u8] {
+pub fn part(buf: &[u8], n: usize) -> &[u8]
+    ensures first { λ r. ⌜ now r ≡ firstBytes n (now (buf .entry)) ⌝ }
+{
     if n <= buf.len() {
         return &buf[0..n];
     }
     &buf[0..0]
+}
+
+// Writes the first n bytes of a text to standard output, by one write where all are taken; a failure is named on
+// standard error.
+pub fn write_output(text: &[u8], n: usize) {
+    if !io::write_all(STDOUT_FILENO, part(text, n)) {
+        os::fail(b"standard output");
+    }
 }

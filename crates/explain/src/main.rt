@@ -1,10 +1,19 @@
-// Reads a job from standard input and the symbols of a form, as decimal words, from the command line. Prints whether the form is accepted, the
-// number of records, and a line for each: the transition and why it is there; or the line 'refused N at P'.
+// Reads a job from standard input and the symbols of a form, as decimal words, from the command line. Prints whether
+// the form is accepted, the number of records, and a line for each: the transition and why it is there; or the line
+// 'refused N at P'.
 use libc::STDERR_FILENO;
-use libc::STDOUT_FILENO;
 ghost use mathlib.Core.Path.{_≡_};
-ghost use Prim.Native.Nat.{_+_, _≤_};
+ghost use Prim.Native.Nat.{_≤_};
 ghost use lib.ListN.{length};
+
+// One byte more than a job may have, so that longer input is refused as too long.
+const INPUT_BYTES: usize = 16385;
+
+// Room for a record of every transition.
+const LISTING_BYTES: usize = 524288;
+
+// The most bytes that the text of an explanation has.
+const TEXT_BYTES: usize = 2424874;
 
 // A word of the command line as a symbol: whether it is a number from 0 to 255, and which.
 struct Word {
@@ -23,16 +32,16 @@ fn value(byte: u8) -> usize
 fn with_digit(n: usize, digit: u8) -> usize
     ensures { λ r. ⌜ r ≤ 256 ⌝ }
 {
-    if digit < 48 {
+    if digit < b'0' {
         return 256;
     }
-    if 57 < digit {
+    if b'9' < digit {
         return 256;
     }
     if 255 < n {
         return 256;
     }
-    let m = 10 * n + value(digit - 48);
+    let m = 10 * n + value(digit - b'0');
     if 255 < m {
         return 256;
     }
@@ -48,12 +57,21 @@ fn symbol_of(word: &[u8]) -> Word {
         i += 1;
     }
     if word.len() == 0 {
-        return Word { ok: false, symbol: 0 };
+        return Word {
+            ok: false,
+            symbol: 0,
+        };
     }
     if n < 256 {
-        return Word { ok: true, symbol: n as u8 };
+        return Word {
+            ok: true,
+            symbol: n as u8,
+        };
     }
-    Word { ok: false, symbol: 0 }
+    Word {
+        ok: false,
+        symbol: 0,
+    }
 }
 
 // Word i of the command line as a symbol.
@@ -79,65 +97,27 @@ fn read_form(form: &mut [u8], count: usize) -> bool
     true
 }
 
-// A number and what stands before it.
-fn print(before: &[u8], n: u8) {
-    io::write_all(STDOUT_FILENO, before);
-    io::print_decimal(STDOUT_FILENO, n as u64);
+// Prints the explanation of a form, by way of a buffer for the text.
+fn print_explanation(job: &[u8], form: &[u8], out: &mut [u8]) {
+    let mut table = [0u8; job::TABLE_BYTES];
+    let mut reasons = [0u16; job::REASON_NUMBERS];
+    let mut listing = [0u8; LISTING_BYTES];
+    let explained = forms::explain::explain(job, &mut table, &mut reasons, form, &mut listing);
+    let written = text::operations::explain_text(
+        explained.number,
+        explained.place,
+        explained.accepted,
+        explained.records,
+        &listing,
+        out,
+    );
+    console::write_output(out, written.bytes);
 }
 
-// The line of the record at a place of the listing.
-fn print_record(listing: &[u8], at: usize)
-    requires { ⌜ at + 8 ≤ length (now listing) ⌝ }
-{
-    print(b"", listing[at]);
-    print(b" ", listing[at + 1]);
-    print(b" ", listing[at + 2]);
-    let kind = listing[at + 3];
-    if kind == b'G' {
-        io::write_all(STDOUT_FILENO, b" given\n");
-        return;
-    }
-    print(b" by ", listing[at + 1]);
-    if kind == b'E' {
-        io::write_all(STDOUT_FILENO, b" -> empty\n");
-        return;
-    }
-    print(b" -> ", listing[at + 4]);
-    if kind == b'P' {
-        print(b" ", listing[at + 5]);
-        print(b" at ", listing[at + 6]);
-    }
-    io::write_all(STDOUT_FILENO, b"\n");
-}
-
-// The lines of all records.
-fn print_records(listing: &[u8], records: usize) {
-    let mut at = 0;
-    let mut left = records;
-    while 0 < left {
-        if listing.len() - at < 8 {
-            return;
-        }
-        print_record(listing, at);
-        at += 8;
-        left -= 1;
-    }
-}
-
-// Explains a form.
+// Prints the explanation of a form.
 fn explain(job: &[u8], form: &[u8]) {
-    let mut table = [0u8; 65536];
-    let mut reasons = [0u16; 32768];
-    // Room for every transition.
-    let mut listing = [0u8; 524288];
-    let explained = ropeclover::operations::explain(job, &mut table, &mut reasons, form, &mut listing);
-    if explained.number != 0 {
-        console::refused_line(explained.number, explained.place);
-        return;
-    }
-    console::answer_line(b"accepted", explained.accepted);
-    console::number_line(b"records", explained.records as u64);
-    print_records(&listing, explained.records);
+    let mut out = [0u8; TEXT_BYTES];
+    print_explanation(job, form, &mut out);
 }
 
 fn main() {
@@ -148,20 +128,27 @@ fn main() {
     }
     let count = words - 1;
     if 4096 < count {
-        io::write_all(STDERR_FILENO, b"explain: too many symbols; a form has at most 64\n");
+        io::write_all(
+            STDERR_FILENO,
+            b"explain: too many symbols; a form has at most 64\n",
+        );
         return;
     }
     if !read_form(&mut form, count) {
-        io::write_all(STDERR_FILENO, b"usage: explain SYMBOL .. < JOB, each symbol a number from 0 to 63\n");
+        io::write_all(
+            STDERR_FILENO,
+            b"usage: explain SYMBOL .. < JOB, each symbol a number from 0 to 63\n",
+        );
         return;
     }
-    // One byte more than a job may have, so that longer input is refused as too long.
-    let mut job = [0u8; 16385];
-    let input = console::read_input(&mut job);
+    let mut buffer = [0u8; INPUT_BYTES];
+    let input = console::read_input(&mut buffer);
     if !input.ok {
         os::fail(b"standard input");
         return;
     }
-    let n = input.len;
-    explain(console::part(&job, n), console::part(&form, count));
+    explain(
+        console::part(&buffer, input.len),
+        console::part(&form, count),
+    );
 }

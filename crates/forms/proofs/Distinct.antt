@@ -1,17 +1,18 @@
--- Lists of different numbers: they are no longer than the set that they are of, and an element tells its index. Assumes nothing.
-use mathlib.Core.Path.{_≡_, refl, sym, ap}
+-- Lists of different numbers: they are no longer than the set that they are of, and an element tells its index.
+-- Assumes nothing.
+use mathlib.Core.Path.{_≡_, refl, sym}
 use mathlib.Core.Logic.{⊎-elim}
 use mathlib.Core.Bool.{Bool, true, false, _||_, false≢true}
-use mathlib.Core.List.{List, [], _∷_, _++_, List·Memᴰ, List·Memᴰ·head, List·Memᴰ·tail, List·Memᴰ·cases-cons, List·Memᴰ·not-nil, List·Memᴰ·append-cases, List·Memᴰ·eq-of-singleton, Memᴰ·cast}
-use Prim.Native.Nat.{ℕ, zero, suc, _≤_, _<_}
+use mathlib.Core.List.{List, [], _∷_, _++_, List·Memᴰ, List·Memᴰ·head, List·Memᴰ·tail, List·Memᴰ·cases-cons}
+use mathlib.Core.List.{List·Memᴰ·not-nil, List·Memᴰ·append-cases, List·Memᴰ·eq-of-singleton}
+use Prim.Native.Nat.{ℕ, suc, _≤_, _<_}
 use native.Mathlib.Omega.{arith}
 use lib.Dec.{eqb}
 use lib.ListN.{length, getD}
 use borrow.Author.Tests.{eqb-true, eq-eqb}
-use Rattle.grammar.specs.Counting.{count}
+use Rattle.grammar.specs.Counting.{count, NoRepeat}
 use Rattle.grammar.proofs.Basics.{or-split, or-left, or-right}
 use Rattle.grammar.proofs.Counting.{count-bound, count-monotone}
-use Rattle.grammar.specs.CountingTheorems.{NoRepeat}
 use Rattle.grammar.proofs.NoRepeat.{count-list}
 
 -- the number is in the list
@@ -69,16 +70,3 @@ no-repeat-behind (x ∷ xs) p apart other = (
 pub index-of : {q : ℕ} {l : List ℕ} → List·Memᴰ q l → (j : ℕ) × (j < length l) × (getD l j 0 ≡ q)
 index-of (List·Memᴰ·head e) = (0, omega arith, sym e)
 index-of (List·Memᴰ·tail m) = let (j, h, e) = index-of m in (suc j, omega arith, e)
-
-pub member-at : (l : List ℕ) (i : ℕ) → i < length l → List·Memᴰ (getD l i 0) l
-member-at [] i h = absurd (omega arith)
-member-at (x ∷ xs) zero h = List·Memᴰ·head refl
-member-at (x ∷ xs) (suc i) h = List·Memᴰ·tail (member-at xs i (omega arith))
-
-pub one-index : (l : List ℕ) → NoRepeat l → (i j : ℕ) → i < length l → j < length l → getD l i 0 ≡ getD l j 0 → i ≡ j
-unfolding NoRepeat
-one-index [] apart i j h k e = absurd (omega arith)
-one-index (x ∷ xs) apart zero zero h k e = refl
-one-index (x ∷ xs) apart zero (suc j) h k e = absurd (apart .0 (Memᴰ·cast e (member-at xs j (omega arith))))
-one-index (x ∷ xs) apart (suc i) zero h k e = absurd (apart .0 (Memᴰ·cast (sym e) (member-at xs i (omega arith))))
-one-index (x ∷ xs) apart (suc i) (suc j) h k e = ap suc (one-index xs (apart .1) i j (omega arith) (omega arith) e)

@@ -1,4 +1,5 @@
--- The checks of explain: the ways through them, and what they make sure of where they refuse nothing. By the tests in turn. Assumes nothing.
+-- The checks of explain: the ways through them, and what they make sure of where they refuse nothing. By the tests in
+-- turn. Assumes nothing.
 use mathlib.Core.Path.{_≡_, refl, sym, _∙_, ap}
 use mathlib.Core.List.{List}
 use Prim.Native.Nat.{ℕ}
@@ -9,7 +10,7 @@ use Rattle.saturation.specs.Table.{Lent}
 use Rattle.saturation.specs.Operations.{machineCheck}
 use Rattle.saturation.proofs.MachineChecks.{Passed, machine-passed}
 use Rattle.forms.specs.Operations.{formCheck, explainCheck}
-use Rattle.forms.specs.Parts.{FormFits}
+use Rattle.forms.specs.Inside.AcceptanceParts.{FormFits}
 use Rattle.forms.proofs.FormChecks.{fits-of-check}
 
 module _ (job : List ℕ) (m : Lent) (form : List ℕ) where

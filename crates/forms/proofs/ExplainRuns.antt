@@ -1,5 +1,5 @@
--- Explain from start to end: a refusal leaves all as it was; else the job is started and run, and the form is explained on the table that this
--- leaves. Assumes nothing.
+-- Explain from start to end: a refusal leaves all as it was; else the job is started and run, and the form is
+-- explained on the table that this leaves. Assumes nothing.
 use mathlib.Core.Path.{_≡_, sym, _∙_, ap}
 use mathlib.Core.Bool.{true, false}
 use mathlib.Core.List.{List}
@@ -7,27 +7,27 @@ use Prim.Native.Nat.{ℕ, _≤_}
 use lib.ListN.{length}
 use borrow.Author.Tests.{eq-eqb, ne-eqb}
 use Rattle.job.specs.declared.Checked.{Checked}
-use Rattle.job.specs.Check.{checkOf, accepted}
+use Rattle.job.specs.Accepted.{Accepted}
 use Rattle.job.specs.Job.{jobOf}
-use Rattle.job.specs.Show.{fullLimits}
 use Rattle.saturation.specs.Table.{Lent, tableSize, reasonsSize}
 use Rattle.saturation.specs.Start.{started}
 use Rattle.saturation.specs.Advance.{steps}
-use Rattle.saturation.proofs.StartLaws.{started-length, started-length-reasons}
-use Rattle.forms.specs.Parts.{FormFits}
+use Rattle.saturation.proofs.Starts.StartLaws.{started-length, started-length-reasons}
 use Rattle.forms.specs.Operations.{explainCheck, ExplainOutcome, explainLeaves, explainFinished, explainOf}
-use Rattle.forms.specs.ExplainParts.{Explainable}
+use Rattle.forms.specs.Inside.AcceptanceParts.{FormFits}
+use Rattle.forms.specs.Inside.ExplainParts.{Explainable}
 use Rattle.forms.proofs.ExplainChecks.{explain-passed}
 use Rattle.forms.proofs.Unlisted.{run-explainable}
 
 -- what start and run ask
 abbrev pub MayRun : List ℕ → Lent → Type 0
-MayRun job m = (tableSize ≤ length (m .table)) × (reasonsSize ≤ length (m .reasons)) × (checkOf fullLimits true job ≡ accepted)
+MayRun job m = (tableSize ≤ length (m .table)) × (reasonsSize ≤ length (m .reasons)) × Accepted true job
 
 module _ (job : List ℕ) (m : Lent) (form : List ℕ) {c : Checked} (checked : c ≡ explainCheck job m form) where
   pub refuses :
       (out : List ℕ) → (c .number ≡ 0 → ⊥) →
-      explainLeaves (record { number = c .number; place = c .place; accepted = false; records = 0 }) m out ≡ explainOf job m form out
+      explainLeaves (record { number = c .number; place = c .place; accepted = false; records = 0 }) m out
+      ≡ explainOf job m form out
   unfolding explainOf
   refuses out refusal = rw (← checked, ne-eqb (c .number) 0 refusal)
 
@@ -46,9 +46,9 @@ module _ (job : List ℕ) (m : Lent) (form : List ℕ) {c : Checked} (checked : 
       )
 
       -- and run
-      module _ {m₂ : Lent} (ran : m₂ ≡ steps (jobOf job) 65536 m₁) where
-        finished : m₂ ≡ steps (jobOf job) 65536 (started (jobOf job) m)
-        finished = ran ∙ ap (steps (jobOf job) 65536) begun
+      module _ {m₂ : Lent} (ran : m₂ ≡ steps (jobOf job .rules) 65536 m₁) where
+        finished : m₂ ≡ steps (jobOf job .rules) 65536 (started (jobOf job) m)
+        finished = ran ∙ ap (steps (jobOf job .rules) 65536) begun
 
         pub may-explain : Explainable job m₂ × FormFits form
         may-explain =
@@ -56,7 +56,8 @@ module _ (job : List ℕ) (m : Lent) (form : List ℕ) {c : Checked} (checked : 
             (rw finished (run-explainable job m p 65536), fits)
 
         pub explains :
-            (out : List ℕ) {after : ExplainOutcome} → after ≡ explainFinished (jobOf job) m₂ form out → after ≡ explainOf job m form out
+            (out : List ℕ) {after : ExplainOutcome} → after ≡ explainFinished (jobOf job) m₂ form out →
+            after ≡ explainOf job m form out
         unfolding explainOf
         explains out e =
             rw (eq-eqb (explainCheck job m form .number) 0 (ap (λ k. k .number) (sym checked) ∙ none), ← finished) e

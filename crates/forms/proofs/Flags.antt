@@ -1,43 +1,23 @@
 -- Laws of the flags: a row filled flag by flag, and the flags of a row from those of the next one. Assumes nothing.
 use mathlib.Core.Path.{_≡_, refl, _∙_, ap}
-use mathlib.Core.Logic.{⊎-elim}
 use mathlib.Core.Bool.{Bool, true, false, _&&_}
 use mathlib.Core.List.{List}
-use Prim.Native.Nat.{ℕ, suc, _+_, _*_, _/_, _≤_, _<_}
+use Prim.Native.Nat.{ℕ, suc, _+_, _*_, _≤_, _<_}
 use native.Mathlib.Omega.{arith}
 use native.Mathlib.Numerals.{add-one}
 use lib.Dec.{eqb}
 use lib.ListN.{length, getD, set, drop, length-set}
 use lib.Seq.{getD-set-same, getD-set-other, drop-cons, drop-length}
-use borrow.Author.Tests.{eqb-true, eqb-false, eq-eqb}
+use borrow.Author.Tests.{eqb-true, eqb-false}
 use Rattle.grammar.specs.Counting.{one-if}
-use Rattle.grammar.proofs.Basics.{cases, same-test, or-split, or-left, or-right}
-use Rattle.job.specs.Job.{Job}
-use Rattle.saturation.specs.Table.{isDone, doneAt}
-use Rattle.forms.specs.Acceptance.{canFinish}
-use Rattle.forms.specs.Parts.{FinalFlags, goesOn, stateFlag, RowFilled}
+use Rattle.grammar.proofs.Basics.{cases}
+use Rattle.saturation.specs.Table.{doneAt}
+use Rattle.forms.specs.Acceptance.{some, canFinish}
+use Rattle.forms.specs.Inside.AcceptanceParts.{flagged, flaggedAt, goesOn, stateFlag, RowFilled}
 use Rattle.forms.proofs.Searching.{some-cong}
 
--- the bytes 2 and 3 are those whose half is 1
-pub half-is-done : (b : ℕ) → eqb (b / 2) 1 ≡ isDone b
-half-is-done b =
-    same-test (eqb (b / 2) 1) (isDone b)
-    (λ e.
-    let half : b / 2 ≡ 1 = eqb-true (b / 2) 1 e in
-    cases
-    (eqb b 2)
-    (λ c. or-left (eqb b 2) (eqb b 3) c)
-    (λ c.
-    let other : ¬ (b ≡ 2) = eqb-false b 2 c in
-    or-right (eqb b 2) (eqb b 3) (eq-eqb b 3 (omega arith))))
-    (λ e.
-    ⊎-elim
-    (λ c. eq-eqb (b / 2) 1 (omega (arith, eqb-true b 2 c)))
-    (λ c. eq-eqb (b / 2) 1 (omega (arith, eqb-true b 3 c)))
-    (or-split (eqb b 2) (eqb b 3) e))
-
 -- a set flag is 1
-flag-is-one : (b : Bool) → eqb (one-if b) 1 ≡ b
+pub flag-is-one : (b : Bool) → eqb (one-if b) 1 ≡ b
 flag-is-one true = refl
 flag-is-one false = refl
 
@@ -47,7 +27,8 @@ module _ (before : List ℕ) (position : ℕ) (flag : ℕ → ℕ) where
 
   -- one flag more
   pub row-more :
-      (after : List ℕ) (q v : ℕ) → position ≤ 64 → q < 32 → length before ≡ 2080 → v ≡ flag q → RowFilled before after position flag q →
+      (after : List ℕ) (q v : ℕ) → position ≤ 64 → q < 32 → length before ≡ 2080 → v ≡ flag q →
+      RowFilled before after position flag q →
       RowFilled before (set after (position * 32 + q) v) position flag (q + 1)
   row-more after q v p l long e filled =
       record {
@@ -61,7 +42,8 @@ module _ (before : List ℕ) (position : ℕ) (flag : ℕ → ℕ) where
             rw same (getD-set-same after (position * 32 + q) v 0 (omega (arith, filled .size)) ∙ e))
             (λ c.
             let other : ¬ (k ≡ q) = eqb-false k q c in
-            getD-set-other after (position * 32 + q) (position * 32 + k) v 0 (λ s. other (omega arith)) ∙ filled .flags k (omega arith));
+            getD-set-other after (position * 32 + q) (position * 32 + k) v 0 (λ s. other (omega arith))
+            ∙ filled .flags k (omega arith));
         past =
             λ k beyond.
             getD-set-other after (position * 32 + q) k v 0 (λ s. absurd (omega arith)) ∙ filled .past k beyond;
@@ -82,56 +64,63 @@ module _
         (v : ℕ) → position ≤ 64 → q < 32 → length before ≡ 2080 → v ≡ stateFlag table after X (position + 1) q →
         RowFilled before (set after (position * 32 + q) v) position (stateFlag table before X (position + 1)) (q + 1)
     row-found v p l long e =
-        row-more before position (stateFlag table before X (position + 1)) after q v p l long (e ∙ state-flag-kept) filled
+        row-more before position (stateFlag table before X (position + 1)) after q v p l long (e ∙ state-flag-kept)
+        filled
 
 -- the flags of the positions from i on are right
-pub record FlagsFrom (J : Job) (table form finish : List ℕ) (i : ℕ) : Type 0 where
-  pub right : (j q : ℕ) → i ≤ j → j ≤ length form → q < 32 → getD finish (j * 32 + q) 0 ≡ one-if (canFinish J table (drop j form) q)
+pub record FlagsFrom (final : ℕ → Bool) (table form finish : List ℕ) (i : ℕ) : Type 0 where
+  pub right :
+      (j q : ℕ) → i ≤ j → j ≤ length form → q < 32 →
+      flaggedAt finish j q ≡ canFinish final (doneAt table) (drop j form) q
 
-module _ {J : Job} {table form : List ℕ} where
-  -- at the end of the form they are those of the final states
-  pub flags-of-end :
-      (finals : List ℕ) {before finish : List ℕ} → FinalFlags J finals → RowFilled before finish (length form) (λ q. getD finals q 0) 32 →
-      FlagsFrom J table form finish (length form)
-  unfolding canFinish
-  flags-of-end finals final filled =
-      record {
-        right =
-            λ j q l m below.
-            let end : j ≡ length form = omega arith in
-            rw (end, drop-length form) (filled .flags q below ∙ final q below);
-      }
+-- at the end of the form they are those of the final states
+pub flags-of-end :
+    (table form finals : List ℕ) {before finish : List ℕ} →
+    RowFilled before finish (length form) (λ q. getD finals q 0) 32 →
+    FlagsFrom (flagged finals) table form finish (length form)
+unfolding canFinish
+flags-of-end table form finals filled =
+    record {
+      right =
+          λ j q l m below.
+          let end : j ≡ length form = omega arith in
+          rw (end, drop-length form) (ap (λ v. eqb v 1) (filled .flags q below));
+    }
 
+module _ {final : ℕ → Bool} {table form : List ℕ} where
   -- a flag of the next position says that the rest of the form can finish
   pub goes-on-can-finish :
-      {finish : List ℕ} {n : ℕ} → FlagsFrom J table form finish n → (X i q r : ℕ) → i < length form → n ≤ i + 1 → r < 32 →
-      goesOn table finish X (i + 1) q r ≡ (doneAt table q X r && canFinish J table (drop (suc i) form) r)
+      {finish : List ℕ} {n : ℕ} → FlagsFrom final table form finish n → (X i q r : ℕ) → i < length form →
+      n ≤ i + 1 → r < 32 →
+      goesOn table finish X (i + 1) q r
+      ≡ (doneAt table q X r && canFinish final (doneAt table) (drop (suc i) form) r)
   goes-on-can-finish flags X i q r l m below =
-      ap (λ v. doneAt table q X r && eqb v 1) (flags .right (i + 1) r m (omega arith) below)
-      ∙ ap (λ v. doneAt table q X r && v) (flag-is-one (canFinish J table (drop (i + 1) form) r))
-      ∙ rw add-one
+      ap (λ v. doneAt table q X r && v) (flags .right (i + 1) r m (omega arith) below) ∙ rw add-one
 
   -- so the flags of a position follow from those of the next one
   pub flags-before :
-      {before after : List ℕ} {i n : ℕ} → i < length form → n ≤ i + 1 → FlagsFrom J table form before n →
-      RowFilled before after i (stateFlag table before (getD form i 0) (i + 1)) 32 → FlagsFrom J table form after i
+      {before after : List ℕ} {i n : ℕ} → i < length form → n ≤ i + 1 → FlagsFrom final table form before n →
+      RowFilled before after i (stateFlag table before (getD form i 0) (i + 1)) 32 →
+      FlagsFrom final table form after i
   unfolding canFinish
-  flags-before {before} {after} {i} {n} l m flags filled = record { right = λ j q a b below. cases (eqb j i) (here j q below) (later j q a b below) }
+  flags-before {before} {after} {i} {n} l m flags filled =
+      record { right = λ j q a b below. cases (eqb j i) (here j q below) (later j q a b below) }
     where
       here :
-          (j q : ℕ) → q < 32 → eqb j i ≡ true → getD after (j * 32 + q) 0 ≡ one-if (canFinish J table (drop j form) q)
+          (j q : ℕ) → q < 32 → eqb j i ≡ true →
+          flaggedAt after j q ≡ canFinish final (doneAt table) (drop j form) q
       here j q below c =
           let same : j ≡ i = eqb-true j i c in
           rw (same, drop-cons form i 0)
-          (filled .flags q below
-          ∙ ap one-if
-          (some-cong (goesOn table before (getD form i 0) (i + 1) q)
-          (λ r. doneAt table q (getD form i 0) r && canFinish J table (drop (suc i) form) r) 32
-          (λ r k. goes-on-can-finish flags (getD form i 0) i q r l m k)))
+          (ap (λ v. eqb v 1) (filled .flags q below)
+          ∙ flag-is-one (some (goesOn table before (getD form i 0) (i + 1) q) 32)
+          ∙ some-cong (goesOn table before (getD form i 0) (i + 1) q)
+          (λ r. doneAt table q (getD form i 0) r && canFinish final (doneAt table) (drop (suc i) form) r) 32
+          (λ r k. goes-on-can-finish flags (getD form i 0) i q r l m k))
 
       later :
           (j q : ℕ) → i ≤ j → j ≤ length form → q < 32 → eqb j i ≡ false →
-          getD after (j * 32 + q) 0 ≡ one-if (canFinish J table (drop j form) q)
+          flaggedAt after j q ≡ canFinish final (doneAt table) (drop j form) q
       later j q a b below c =
           let other : ¬ (j ≡ i) = eqb-false j i c in
-          filled .past (j * 32 + q) (omega arith) ∙ flags .right j q (omega arith) b below
+          ap (λ v. eqb v 1) (filled .past (j * 32 + q) (omega arith)) ∙ flags .right j q (omega arith) b below

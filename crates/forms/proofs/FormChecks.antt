@@ -1,4 +1,5 @@
--- The checks of a form by what holds of its symbols: it is refused at the first byte over 63, and fits where there is none. Assumes nothing.
+-- The checks of a form by what holds of its symbols: it is refused at the first byte over 63, and fits where there is
+-- none. Assumes nothing.
 use mathlib.Core.Path.{_≡_, refl, sym, _∙_, ap}
 use mathlib.Core.Bool.{true}
 use mathlib.Core.List.{List, [], _∷_}
@@ -10,14 +11,14 @@ use lib.Dec.{ltb}
 use lib.ListN.{length, getD}
 use Rattle.grammar.proofs.Basics.{cases}
 use Rattle.job.specs.declared.Checked.{Checked}
-use Rattle.job.specs.Check.{checkOf, refused, accepted, orElse}
-use Rattle.job.proofs.Accepted.{accepted-by-number}
+use Rattle.job.specs.Accepted.{Accepted}
+use Rattle.job.specs.Check.{checkOf, fullLimits, refused, accepted, orElse, shortTable}
+use Rattle.job.proofs.Accepted.{number-accepted}
 use Rattle.job.proofs.JobChecks.{both-pass, not-short}
-use Rattle.saturation.specs.Operations.{shortTable}
-use Rattle.job.specs.Show.{fullLimits}
 use Rattle.saturation.specs.Table.{tableSize}
+use Rattle.forms.specs.Acceptance.{SymbolsFit}
 use Rattle.forms.specs.Operations.{firstOver, formCheck, askCheck}
-use Rattle.forms.specs.Parts.{SymbolsFit, FormFits}
+use Rattle.forms.specs.Inside.AcceptanceParts.{FormFits}
 
 -- the symbols before a position fit
 abbrev pub FitBefore : List ℕ → ℕ → Type 0
@@ -26,13 +27,16 @@ FitBefore w i = (k : ℕ) → k < i → getD w k 0 ≤ 63
 fit-tail : (x : ℕ) (w : List ℕ) (i : ℕ) → FitBefore (x ∷ w) (suc i) → FitBefore w i
 fit-tail x w i fits k h = fits (suc k) (suc-le-suc h)
 
-over-at : (w : List ℕ) (base i : ℕ) → FitBefore w i → i < length w → 63 < getD w i 0 → firstOver base w ≡ refused 11 (base + i)
+over-at :
+    (w : List ℕ) (base i : ℕ) → FitBefore w i → i < length w → 63 < getD w i 0 → firstOver base w
+    ≡ refused 11 (base + i)
 unfolding firstOver
 over-at [] base i fits below over = absurd (omega arith)
 over-at (x ∷ w) base zero fits below over = rw (lt-ltb 63 x over, add-zero)
 over-at (x ∷ w) base (suc i) fits below over =
     rw (le-ltb 63 x (fits zero (omega arith)))
-    (over-at w (suc base) i (fit-tail x w i fits) (omega arith) over ∙ ap (refused 11) (suc-add base i ∙ sym (add-suc base i)))
+    (over-at w (suc base) i (fit-tail x w i fits) (omega arith) over
+    ∙ ap (refused 11) (suc-add base i ∙ sym (add-suc base i)))
 
 none-over : (w : List ℕ) (base : ℕ) → SymbolsFit w → firstOver base w ≡ accepted
 unfolding firstOver
@@ -55,9 +59,11 @@ pub form-too-long : (w : List ℕ) → 64 < length w → formCheck w ≡ refused
 unfolding formCheck
 form-too-long w h = rw (lt-ltb 64 (length w) h)
 
-pub form-over : (w : List ℕ) (i : ℕ) → length w ≤ 64 → FitBefore w i → i < length w → 63 < getD w i 0 → formCheck w ≡ refused 11 i
+pub form-over :
+    (w : List ℕ) (i : ℕ) → length w ≤ 64 → FitBefore w i → i < length w → 63 < getD w i 0 → formCheck w ≡ refused 11 i
 unfolding formCheck
-form-over w i short fits below over = rw (le-ltb 64 (length w) short) (over-at w 0 i fits below over ∙ ap (refused 11) (omega arith))
+form-over w i short fits below over =
+    rw (le-ltb 64 (length w) short) (over-at w 0 i fits below over ∙ ap (refused 11) (omega arith))
 
 pub form-fits : (w : List ℕ) → length w ≤ 64 → SymbolsFit w → formCheck w ≡ accepted
 unfolding formCheck
@@ -70,20 +76,34 @@ fits-of-check w none =
     cases (ltb 64 (length w)) (λ long. absurd (let z : _≡_ {A = ℕ} 12 0 = rw long at none in omega arith))
     (λ short. record { short = ltb-false 64 (length w) short; symbols = fit-of-none w 0 (rw short at none) })
 
+-- its refusals are 11 and 12
+first-over-number : (k : ℕ) (form : List ℕ) → firstOver k form .number ≤ 12
+unfolding firstOver
+first-over-number k [] = omega arith
+first-over-number k (X ∷ form) =
+    cases (ltb 63 X) (λ t. rw t (omega arith)) (λ t. rw t (first-over-number (suc k) form))
+
+pub form-number : (form : List ℕ) → formCheck form .number ≤ 12
+unfolding formCheck
+form-number form =
+    cases (ltb 64 (length form)) (λ t. rw t (omega arith)) (λ t. rw t (first-over-number 0 form))
+
 -- the ways through the checks of ask: a short table, a refused job, and the form's own
 pub ask-short : (job table form : List ℕ) → length table < tableSize → askCheck job table form ≡ refused 10 1
 unfolding askCheck
 ask-short job table form h = rw (lt-ltb (length table) tableSize h)
 
 pub ask-job :
-    (job table form : List ℕ) (c : Checked) → tableSize ≤ length table → c ≡ checkOf fullLimits true job → (c .number ≡ 0 → ⊥) →
+    (job table form : List ℕ) (c : Checked) → tableSize ≤ length table → c ≡ checkOf fullLimits true job →
+    (c .number ≡ 0 → ⊥) →
     askCheck job table form ≡ c
 unfolding askCheck
 ask-job job table form c long e refusal =
     rw (le-ltb (length table) tableSize long, ← e, ne-eqb (c .number) 0 refusal)
 
 pub ask-form :
-    (job table form : List ℕ) (c : Checked) → tableSize ≤ length table → c ≡ checkOf fullLimits true job → c .number ≡ 0 →
+    (job table form : List ℕ) (c : Checked) → tableSize ≤ length table → c ≡ checkOf fullLimits true job →
+    c .number ≡ 0 →
     askCheck job table form ≡ formCheck form
 unfolding askCheck
 ask-form job table form c long e none = rw (le-ltb (length table) tableSize long, ← e, eq-eqb (c .number) 0 none)
@@ -91,7 +111,7 @@ ask-form job table form c long e none = rw (le-ltb (length table) tableSize long
 -- what ask has made sure of where it refuses nothing
 pub record AskPassed (job table form : List ℕ) : Type 0 where
   pub long : tableSize ≤ length table
-  pub job-accepted : checkOf fullLimits true job ≡ accepted
+  pub job-accepted : Accepted true job
   pub form-fits : FormFits form
 
 pub ask-passed : (job table form : List ℕ) → askCheck job table form .number ≡ 0 → AskPassed job table form
@@ -101,6 +121,6 @@ ask-passed job table form e =
     let (t, j) = both-pass (shortTable table) (checkOf fullLimits true job) c in
     record {
       long = ltb-false (length table) tableSize (not-short (ltb (length table) tableSize) 1 t);
-      job-accepted = accepted-by-number fullLimits true job j;
+      job-accepted = number-accepted true job j;
       form-fits = fits-of-check form f;
     }

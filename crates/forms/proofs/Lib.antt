@@ -19,7 +19,6 @@ pub mod Walks
 pub mod WalkMoves
 pub mod WalkInvariant
 pub mod Unmarking
-pub mod KeysJob
 pub mod ListAll
 pub mod RunOrder
 pub mod ListingTheorems
@@ -29,3 +28,8 @@ pub mod Explaining
 pub mod ExplainAnswers
 pub mod Unlisted
 pub mod ExplainRuns
+pub mod ListedPlaces
+pub mod FirstListing
+pub mod ExplainCases
+pub mod ExplainLaws
+pub mod ExplainListing

@@ -6,26 +6,28 @@ use Prim.Native.Nat.{ℕ, zero, suc, _+_, _*_}
 use native.Mathlib.Nat.{add-zero}
 use native.Mathlib.Omega.{arith}
 use lib.ListN.{length, set, length-append}
-use lib.Seq.{sets}
+use lib.Seq.{sets, length-sets}
 use Rattle.grammar.proofs.Basics.{cases}
-use Rattle.job.specs.Job.{Job}
-use Rattle.forms.specs.Listing.{Listed, listing, inTurn, visit, premises, recordOf, recordsAt}
-use Rattle.forms.specs.ListingParts.{isListed, fresh, shown, listOne}
-use Rattle.forms.proofs.ReasonLaws.{record-by-bytes}
+use Rattle.grammar.specs.Rule.{Rule}
+use Rattle.forms.specs.Listing.{Listed, listing, inTurn, visit, premises, recordOf, recordsAt, isListed}
+use Rattle.forms.specs.Inside.ListingParts.{fresh, shown, listOne}
+use Rattle.forms.proofs.ReasonLaws.{record-length}
 
 -- one listing
 pub listed-written :
-    (J : Job) (reasons t out out' : List ℕ) (n p : ℕ) → out' ≡ sets out (8 * n) (recordOf J reasons p) →
-    record { table = set t p 3; count = n + 1; out = out' } ≡ listOne true J reasons p (record { table = t; count = n; out = out })
+    (ρs : List Rule) (reasons t out out' : List ℕ) (n p : ℕ) → out' ≡ sets out (8 * n) (recordOf ρs reasons p) →
+    record { table = set t p 3; count = n + 1; out = out' } ≡ listOne true ρs reasons p
+    (record { table = t; count = n; out = out })
 unfolding shown recordsAt
-listed-written J reasons t out out' n p e =
-    rw (append-nil (recordOf J reasons p)) (ap (λ z. record { table = set t p 3; count = n + 1; out = z }) e)
+listed-written ρs reasons t out out' n p e =
+    rw (append-nil (recordOf ρs reasons p)) (ap (λ z. record { table = set t p 3; count = n + 1; out = z }) e)
 
 pub listed-counted :
-    (J : Job) (reasons t out : List ℕ) (n p : ℕ) →
-    record { table = set t p 3; count = n + 1; out = out } ≡ listOne false J reasons p (record { table = t; count = n; out = out })
+    (ρs : List Rule) (reasons t out : List ℕ) (n p : ℕ) →
+    record { table = set t p 3; count = n + 1; out = out } ≡ listOne false ρs reasons p
+    (record { table = t; count = n; out = out })
 unfolding shown
-listed-counted J reasons t out n p = refl
+listed-counted ρs reasons t out n p = refl
 
 -- stores in a row
 sets-append : (xs ys l : List ℕ) (i : ℕ) → sets l i (xs ++ ys) ≡ sets (sets l i xs) (i + length xs) ys
@@ -35,22 +37,23 @@ sets-append (x ∷ xs) ys l i =
 
 -- the records of places in a row
 pub records-append :
-    (J : Job) (reasons ps qs : List ℕ) → recordsAt J reasons (ps ++ qs) ≡ recordsAt J reasons ps ++ recordsAt J reasons qs
+    (ρs : List Rule) (reasons ps qs : List ℕ) → recordsAt ρs reasons (ps ++ qs) ≡ recordsAt ρs reasons ps
+    ++ recordsAt ρs reasons qs
 unfolding recordsAt
-records-append J reasons [] qs = refl
-records-append J reasons (p ∷ ps) qs =
-    ap (λ z. recordOf J reasons p ++ z) (records-append J reasons ps qs)
-    ∙ sym (append-assoc (recordOf J reasons p) (recordsAt J reasons ps) (recordsAt J reasons qs))
+records-append ρs reasons [] qs = refl
+records-append ρs reasons (p ∷ ps) qs =
+    ap (λ z. recordOf ρs reasons p ++ z) (records-append ρs reasons ps qs)
+    ∙ sym (append-assoc (recordOf ρs reasons p) (recordsAt ρs reasons ps) (recordsAt ρs reasons qs))
 
-pub records-length : (J : Job) (reasons ps : List ℕ) → length (recordsAt J reasons ps) ≡ 8 * length ps
+pub records-length : (ρs : List Rule) (reasons ps : List ℕ) → length (recordsAt ρs reasons ps) ≡ 8 * length ps
 unfolding recordsAt
-records-length J reasons [] = refl
-records-length J reasons (p ∷ ps) =
+records-length ρs reasons [] = refl
+records-length ρs reasons (p ∷ ps) =
     omega (
       arith,
-      length-append (recordOf J reasons p) (recordsAt J reasons ps),
-      ap length (record-by-bytes J reasons p),
-      records-length J reasons ps,
+      length-append (recordOf ρs reasons p) (recordsAt ρs reasons ps),
+      record-length ρs reasons p,
+      records-length ρs reasons ps,
     )
 
 -- a listing m that goes on after l
@@ -59,33 +62,42 @@ after l m = record { table = m .table; places = l .places ++ m .places }
 
 -- a pass that goes on shows both
 pub shown-after :
-    (write : Bool) (J : Job) (reasons : List ℕ) (n : ℕ) (out : List ℕ) (l m : Listed) →
-    shown write J reasons (shown write J reasons n out l .count) (shown write J reasons n out l .out) m
-    ≡ shown write J reasons n out (after l m)
+    (write : Bool) (ρs : List Rule) (reasons : List ℕ) (n : ℕ) (out : List ℕ) (l m : Listed) →
+    shown write ρs reasons (shown write ρs reasons n out l .count) (shown write ρs reasons n out l .out) m
+    ≡ shown write ρs reasons n out (after l m)
 unfolding shown
-shown-after true J reasons n out l m = λ i. record { table = m .table; count = counts i; out = stores i }
+shown-after true ρs reasons n out l m = λ i. record { table = m .table; count = counts i; out = stores i }
   where
     counts : n + length (l .places) + length (m .places) ≡ n + length (l .places ++ m .places)
     counts = omega (arith, length-append (l .places) (m .places))
 
     stores :
-        sets (sets out (8 * n) (recordsAt J reasons (l .places))) (8 * (n + length (l .places))) (recordsAt J reasons (m .places))
-        ≡ sets out (8 * n) (recordsAt J reasons (l .places ++ m .places))
+        sets (sets out (8 * n) (recordsAt ρs reasons (l .places))) (8 * (n + length (l .places)))
+        (recordsAt ρs reasons (m .places))
+        ≡ sets out (8 * n) (recordsAt ρs reasons (l .places ++ m .places))
     stores =
         ap
-        (λ k. sets (sets out (8 * n) (recordsAt J reasons (l .places))) k (recordsAt J reasons (m .places)))
-        (omega (arith, records-length J reasons (l .places)))
-        ∙ sym (sets-append (recordsAt J reasons (l .places)) (recordsAt J reasons (m .places)) out (8 * n))
-        ∙ ap (sets out (8 * n)) (sym (records-append J reasons (l .places) (m .places)))
-shown-after false J reasons n out l m =
+        (λ k. sets (sets out (8 * n) (recordsAt ρs reasons (l .places))) k (recordsAt ρs reasons (m .places)))
+        (omega (arith, records-length ρs reasons (l .places)))
+        ∙ sym (sets-append (recordsAt ρs reasons (l .places)) (recordsAt ρs reasons (m .places)) out (8 * n))
+        ∙ ap (sets out (8 * n)) (sym (records-append ρs reasons (l .places) (m .places)))
+shown-after false ρs reasons n out l m =
     ap (λ k. record { table = m .table; count = k; out = out }) (omega (arith, length-append (l .places) (m .places)))
+
+-- and keeps the length of the buffer
+pub shown-out-length :
+    (write : Bool) (ρs : List Rule) (reasons : List ℕ) (n : ℕ) (out : List ℕ) (l : Listed) →
+    length (shown write ρs reasons n out l .out) ≡ length out
+unfolding shown
+shown-out-length true ρs reasons n out l = length-sets out (8 * n) (recordsAt ρs reasons (l .places))
+shown-out-length false ρs reasons n out l = refl
 
 -- one more listing
 pub list-one-shown :
-    (write : Bool) (J : Job) (reasons : List ℕ) (n : ℕ) (out : List ℕ) (l : Listed) (p : ℕ) →
-    listOne write J reasons p (shown write J reasons n out l) ≡ shown write J reasons n out (listing p l)
+    (write : Bool) (ρs : List Rule) (reasons : List ℕ) (n : ℕ) (out : List ℕ) (l : Listed) (p : ℕ) →
+    listOne write ρs reasons p (shown write ρs reasons n out l) ≡ shown write ρs reasons n out (listing p l)
 unfolding shown
-list-one-shown write J reasons n out l p = shown-after write J reasons n out l (listing p (fresh (l .table)))
+list-one-shown write ρs reasons n out l p = shown-after write ρs reasons n out l (listing p (fresh (l .table)))
 
 -- visits do not look at the places listed before
 nothing-after : (l : Listed) → l ≡ after l (fresh (l .table))
@@ -106,31 +118,31 @@ in-turn-after f e (p ∷ ps) l =
     ∙ ap (after l) (sym (in-turn-after f e ps m))
 
 pub visit-after :
-    (n : ℕ) (J : Job) (reasons : List ℕ) (p : ℕ) (l : Listed) →
-    visit n J reasons p l ≡ after l (visit n J reasons p (fresh (l .table)))
+    (n : ℕ) (ρs : List Rule) (reasons : List ℕ) (p : ℕ) (l : Listed) →
+    visit n ρs reasons p l ≡ after l (visit n ρs reasons p (fresh (l .table)))
 unfolding visit
-visit-after zero J reasons p l = nothing-after l
-visit-after (suc n) J reasons p l =
+visit-after zero ρs reasons p l = nothing-after l
+visit-after (suc n) ρs reasons p l =
     cases
     (isListed (l .table) p)
     (λ e. rw e (nothing-after l))
     (λ e.
-    let m : Listed = inTurn (visit n J reasons) (premises J reasons p) (fresh (l .table)) in
+    let m : Listed = inTurn (visit n ρs reasons) (premises ρs reasons p) (fresh (l .table)) in
     rw e
-    (ap (listing p) (in-turn-after (visit n J reasons) (visit-after n J reasons) (premises J reasons p) l)
+    (ap (listing p) (in-turn-after (visit n ρs reasons) (visit-after n ρs reasons) (premises ρs reasons p) l)
     ∙ ap (λ z. record { table = set (m .table) p 3; places = z }) (append-assoc (l .places) (m .places) (p ∷ []))))
 
 -- one more visit
 pub visit-one-shown :
-    (write : Bool) (J : Job) (reasons : List ℕ) (n : ℕ) (out : List ℕ) (l : Listed) (fuel p : ℕ) →
+    (write : Bool) (ρs : List Rule) (reasons : List ℕ) (n : ℕ) (out : List ℕ) (l : Listed) (fuel p : ℕ) →
     shown
     write
-    J
+    ρs
     reasons
-    (shown write J reasons n out l .count)
-    (shown write J reasons n out l .out)
-    (visit fuel J reasons p (fresh (l .table)))
-    ≡ shown write J reasons n out (visit fuel J reasons p l)
-visit-one-shown write J reasons n out l fuel p =
-    shown-after write J reasons n out l (visit fuel J reasons p (fresh (l .table)))
-    ∙ ap (shown write J reasons n out) (sym (visit-after fuel J reasons p l))
+    (shown write ρs reasons n out l .count)
+    (shown write ρs reasons n out l .out)
+    (visit fuel ρs reasons p (fresh (l .table)))
+    ≡ shown write ρs reasons n out (visit fuel ρs reasons p l)
+visit-one-shown write ρs reasons n out l fuel p =
+    shown-after write ρs reasons n out l (visit fuel ρs reasons p (fresh (l .table)))
+    ∙ ap (shown write ρs reasons n out) (sym (visit-after fuel ρs reasons p l))

@@ -1,5 +1,5 @@
--- What a run of listings leaves: more places, each byte as it was or 3, and as many places not listed fewer as are listed. By induction on the run.
--- Assumes nothing.
+-- What a run of listings leaves: more places, each byte as it was or 3, and as many places not listed fewer as are
+-- listed. By induction on the run. Assumes nothing.
 use mathlib.Core.Path.{_≡_, refl, sym, _∙_, ap}
 use mathlib.Core.Logic.{_⊎_, inl, inr, ⊎-elim}
 use mathlib.Core.Bool.{true, false, not}
@@ -12,15 +12,18 @@ use lib.Seq.{getD-set-same, getD-set-other}
 use borrow.Author.Tests.{eqb-true, eqb-false}
 use Rattle.grammar.proofs.Basics.{cases, true-and-false}
 use Rattle.grammar.proofs.Counting.{count-one-more, count-bound}
-use Rattle.job.specs.Job.{Job}
-use Rattle.saturation.specs.Table.{tableSize, isDone}
-use Rattle.forms.specs.Listing.{Listed}
-use Rattle.forms.specs.ListingParts.{isListed, unlistedCount, DonePlace, Grounded, fresh}
+use Rattle.grammar.specs.Rule.{Rule}
+use Rattle.saturation.specs.Table.{tableSize, isDone, isDoneAt, statuses}
+use Rattle.saturation.specs.Theorems.Steps.{doneCount}
+use Rattle.forms.specs.Listing.{Listed, isListed}
+use Rattle.forms.specs.Grounded.{DonePlace, Grounded}
+use Rattle.forms.specs.Inside.ListingParts.{unlistedCount, fresh}
 use Rattle.forms.proofs.Runs.{Run, listing-lists, run-length}
 
 -- one listing takes one place off those that are not listed
 pub listing-counts :
-    (t : List ℕ) (p : ℕ) → p < tableSize → tableSize ≤ length t → isListed t p ≡ false → unlistedCount t ≡ suc (unlistedCount (set t p 3))
+    (t : List ℕ) (p : ℕ) → p < tableSize → tableSize ≤ length t → isListed t p ≡ false → unlistedCount t
+    ≡ suc (unlistedCount (set t p 3))
 unfolding unlistedCount
 listing-counts t p within long e =
     count-one-more
@@ -37,20 +40,25 @@ pub unlisted-bound : (t : List ℕ) → unlistedCount t ≤ tableSize
 unfolding unlistedCount
 unlisted-bound t = count-bound (λ q. not (isListed t q)) tableSize
 
-module _ {J : Job} {reasons t : List ℕ} {height : ℕ → ℕ} {b : ℕ} where
-  pub run-places : {l l' : Listed} → Run J reasons t height b l l' → length (l .places) ≤ length (l' .places)
+pub done-bound : (t : List ℕ) → doneCount (statuses t) ≤ tableSize
+unfolding doneCount
+done-bound t = count-bound (isDoneAt (statuses t)) tableSize
+
+module _ {ρs : List Rule} {reasons t : List ℕ} {height : ℕ → ℕ} {b : ℕ} where
+  pub run-places : {l l' : Listed} → Run ρs reasons t height b l l' → length (l .places) ≤ length (l' .places)
   run-places Run.nothing = omega arith
   run-places (Run.more {l' = m} p s d h u a) = omega (arith, run-places s, length-append (m .places) (p ∷ []))
 
   -- a run that lists something is longer
   pub run-grows :
-      {l l' : Listed} → Run J reasons t height b l l' → (q : ℕ) → isListed (l .table) q ≡ false → isListed (l' .table) q ≡ true →
+      {l l' : Listed} → Run ρs reasons t height b l l' → (q : ℕ) → isListed (l .table) q ≡ false →
+      isListed (l' .table) q ≡ true →
       length (l .places) < length (l' .places)
   run-grows Run.nothing q e f = true-and-false f e
   run-grows (Run.more {l' = m} p s d h u a) q e f = omega (arith, run-places s, length-append (m .places) (p ∷ []))
 
   pub run-counts :
-      {l l' : Listed} → Run J reasons t height b l l' → tableSize ≤ length (l .table) →
+      {l l' : Listed} → Run ρs reasons t height b l l' → tableSize ≤ length (l .table) →
       length (l' .places) + unlistedCount (l' .table) ≡ length (l .places) + unlistedCount (l .table)
   run-counts Run.nothing long = refl
   run-counts (Run.more {l' = m} p s d h u a) long =
@@ -63,7 +71,7 @@ module _ {J : Job} {reasons t : List ℕ} {height : ℕ → ℕ} {b : ℕ} where
 
   -- a byte is as it was, or 3 at a done place
   pub run-marks :
-      {l l' : Listed} → Run J reasons t height b l l' → tableSize ≤ length (l .table) → (q : ℕ) →
+      {l l' : Listed} → Run ρs reasons t height b l l' → tableSize ≤ length (l .table) → (q : ℕ) →
       (getD (l' .table) q 0 ≡ getD (l .table) q 0) ⊎ ((getD (l' .table) q 0 ≡ 3) × DonePlace t q)
   run-marks Run.nothing long q = inl refl
   run-marks (Run.more {l' = m} p s d h u a) long q =
@@ -76,7 +84,8 @@ module _ {J : Job} {reasons t : List ℕ} {height : ℕ → ℕ} {b : ℕ} where
 
   -- only done places are listed
   pub run-lists-done :
-      {l l' : Listed} → Run J reasons t height b l l' → (q : ℕ) → List·Memᴰ q (l' .places) → List·Memᴰ q (l .places) ⊎ DonePlace t q
+      {l l' : Listed} → Run ρs reasons t height b l l' → (q : ℕ) → List·Memᴰ q (l' .places) →
+      List·Memᴰ q (l .places) ⊎ DonePlace t q
   run-lists-done Run.nothing q m = inl m
   run-lists-done (Run.more {l' = k} p s d h u a) q m =
       ⊎-elim
@@ -85,7 +94,8 @@ module _ {J : Job} {reasons t : List ℕ} {height : ℕ → ℕ} {b : ℕ} where
       (List·Memᴰ·append-cases (k .places) m)
 
 -- marks keep the done places
-module _ {J : Job} {reasons t : List ℕ} {height : ℕ → ℕ} {b : ℕ} {l : Listed} (run : Run J reasons t height b (fresh t) l) (long : tableSize ≤ length t) where
+module _ {ρs : List Rule} {reasons t : List ℕ} {height : ℕ → ℕ} {b : ℕ} {l : Listed}
+    (run : Run ρs reasons t height b (fresh t) l) (long : tableSize ≤ length t) where
   pub done-kept : (q : ℕ) → DonePlace t q → DonePlace (l .table) q
   done-kept q d =
       ⊎-elim
@@ -95,10 +105,11 @@ module _ {J : Job} {reasons t : List ℕ} {height : ℕ → ℕ} {b : ℕ} {l : 
 
   pub done-before : (q : ℕ) → DonePlace (l .table) q → DonePlace t q
   done-before q d =
-      ⊎-elim (λ e. record { within = d .within; is-done = ap isDone (sym e) ∙ d .is-done }) (λ m. m .1) (run-marks run long q)
+      ⊎-elim (λ e. record { within = d .within; is-done = ap isDone (sym e) ∙ d .is-done }) (λ m. m .1)
+      (run-marks run long q)
 
   -- and with them what a walk needs
-  pub grounded-kept : Grounded J reasons t → Grounded J reasons (l .table)
+  pub grounded-kept : Grounded ρs reasons t → Grounded ρs reasons (l .table)
   grounded-kept g =
       record {
         height = g .height;

@@ -1,27 +1,28 @@
--- A table that a start and steps have written has no byte 3, as a start writes 0 and 1 and a step 2 and 1; and its reasons lead down. So a form can
--- be explained on it. Assumes nothing.
+-- A table that a start and steps have written has no byte 3, as a start writes 0 and 1 and a step 2 and 1; and its
+-- reasons lead down. So a form can be explained on it. Assumes nothing.
 use mathlib.Core.Path.{_≡_, refl}
-use mathlib.Core.Bool.{Bool, true, false, cond, _&&_, _||_}
+use mathlib.Core.Bool.{Bool, true, false, cond, _||_}
 use mathlib.Core.List.{List}
 use Prim.Native.Nat.{ℕ, _≤_, _<_}
 use native.Mathlib.Omega.{arith}
-use lib.Dec.{eqb, leb}
+use lib.Dec.{eqb}
 use lib.ListN.{length, getD}
 use borrow.Author.Tests.{lt-leb}
+use Rattle.grammar.specs.Rule.{Rule}
 use Rattle.job.specs.Job.{Job, jobOf}
-use Rattle.saturation.specs.Table.{Lent, tableSize, fromState, symbolAt, toState, isAbsent}
+use Rattle.saturation.specs.Table.{Lent, tableSize, fromState, symbolAt, toState, Statuses, statuses}
 use Rattle.saturation.specs.Start.{started, startByte, isEmptyAt}
-use Rattle.saturation.specs.Step.{lowest, offered, byteAfter, taking}
+use Rattle.saturation.specs.Step.{lowest, comesIn, byteAfter, taking}
 use Rattle.saturation.specs.Advance.{steps}
 use Rattle.saturation.proofs.MachineChecks.{Passed}
-use Rattle.saturation.proofs.AcceptedInRange.{accepted-in-range}
-use Rattle.saturation.proofs.Each.{getD-each-0}
-use Rattle.saturation.proofs.Taking.{taking-length}
-use Rattle.saturation.proofs.StartLaws.{started-length, started-length-reasons}
-use Rattle.saturation.proofs.StepLaws.{steps-keep, steps-length-reasons}
-use Rattle.saturation.proofs.StartReasons.{run-reasons-fit}
-use Rattle.forms.specs.ListingParts.{isListed}
-use Rattle.forms.specs.ExplainParts.{Explainable}
+use Rattle.job.proofs.AcceptedFacts.{in-range}
+use Rattle.saturation.proofs.Tables.Each.{getD-each-0}
+use Rattle.saturation.proofs.Steps.Taking.{taking-length}
+use Rattle.saturation.proofs.Starts.StartLaws.{started-length, started-length-reasons}
+use Rattle.saturation.proofs.Steps.StepLaws.{steps-keep, steps-keep-rest}
+use Rattle.saturation.proofs.Reasons.Runs.{run-reasons-fit}
+use Rattle.forms.specs.Listing.{isListed}
+use Rattle.forms.specs.Inside.ExplainParts.{Explainable}
 use Rattle.forms.proofs.Grounding.{grounded-by-reasons}
 
 -- a byte picked from bytes that are not 3
@@ -41,32 +42,49 @@ started-unlisted J m long =
       long = omega (arith, long, started-length J m);
       none-listed = λ p h.
           rw (getD-each-0 (startByte J) (m .table) p (omega (arith, long)), lt-leb tableSize p h)
-          (picked (J .given (fromState p) (symbolAt p) (toState p) || isEmptyAt J (fromState p) (symbolAt p) (toState p)) 1 0 refl refl);
+          (picked (J .given (fromState p) (symbolAt p) (toState p) || isEmptyAt J (fromState p) (symbolAt p)
+          (toState p)) 1 0 refl refl);
     }
 
-taking-unlisted : (J : Job) (k : ℕ) (m : Lent) → Unlisted m → Unlisted (taking J k m)
+taking-unlisted : (ρs : List Rule) (k : ℕ) (m : Lent) → Unlisted m → Unlisted (taking ρs k m)
 unfolding taking
-taking-unlisted J k m u =
+taking-unlisted ρs k m u =
     record {
-      long = omega (arith, u .long, taking-length J k m);
+      long = omega (arith, u .long, taking-length ρs k m);
       none-listed = λ p h.
           let old : ℕ = getD (m .table) p 0 in
-          let new : Bool = isAbsent old && leb 1 (offered J (m .table) k (fromState p) (symbolAt p) (toState p)) in
-          rw (getD-each-0 (byteAfter J (m .table) k) (m .table) p (omega (arith, u .long)), lt-leb tableSize p h)
+          let v : Statuses = statuses (m .table) in
+          let new : Bool = comesIn ρs v k (fromState p) (symbolAt p) (toState p) in
+          rw (getD-each-0 (byteAfter ρs v k) (m .table) p (omega (arith, u .long)), lt-leb tableSize p h)
           (picked (eqb p k) 2 (cond new 1 old) refl (picked new 1 old refl (u .none-listed p h)));
     }
 
 -- a form can be explained after any number of steps
-pub run-explainable : (job : List ℕ) (m : Lent) → Passed job m → (n : ℕ) → Explainable job (steps (jobOf job) n (started (jobOf job) m))
+pub run-explainable :
+    (job : List ℕ) (m : Lent) → Passed job m → (n : ℕ) →
+    Explainable job (steps (jobOf job .rules) n (started (jobOf job) m))
 run-explainable job m passed n =
     let J : Job = jobOf job in
-    let range = accepted-in-range true job (passed .ok) in
-    let u = steps-keep Unlisted J (λ m' f. taking-unlisted J (lowest (m' .table)) m') n (started J m) (started-unlisted J m (passed .long)) in
+    let range = in-range (passed .ok) in
+    let u =
+    steps-keep Unlisted (J .rules) (λ m' f. taking-unlisted (J .rules) (lowest (statuses (m' .table))) m') n
+    (started J m)
+    (started-unlisted J m (passed .long)) in
     record {
-      long = u .long;
-      reasons-long = omega (arith, passed .long-reasons, started-length-reasons J m, steps-length-reasons J n (started J m));
       job-accepted = passed .ok;
-      grounded =
-          grounded-by-reasons J range (steps J n (started J m)) (run-reasons-fit J range m (passed .long) (passed .long-reasons) n);
+      listable =
+          record {
+            long = u .long;
+            reasons-long =
+                omega (
+                  arith,
+                  passed .long-reasons,
+                  started-length-reasons J m,
+                  steps-keep-rest (J .rules) n (started J m) .long-reasons,
+                );
+            grounded =
+                grounded-by-reasons J range (steps (J .rules) n (started J m))
+                (run-reasons-fit J range m (passed .long) (passed .long-reasons) n);
+          };
       none-listed = u .none-listed;
     }

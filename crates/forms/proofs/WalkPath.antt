@@ -1,20 +1,24 @@
--- The path of a walk, last place first: heights rise along it, so no place stands on it twice, and as all are variables' it fits its array.
--- Assumes nothing.
+-- The path of a walk, last place first: heights rise along it, so no place stands on it twice, and as all are
+-- variables' it fits its array. Assumes nothing.
 use mathlib.Core.Path.{_≡_, refl, sym, _∙_, ap, ap₂}
 use mathlib.Core.Logic.{⊎-elim}
 use mathlib.Core.Bool.{false}
-use mathlib.Core.List.{Memᴰ·of-map, List, [], _∷_, map, List·Memᴰ, List·Memᴰ·head, List·Memᴰ·tail, List·Memᴰ·cases-cons, List·Memᴰ·not-nil}
+use mathlib.Core.List.{Memᴰ·of-map, List, [], _∷_, map, List·Memᴰ, List·Memᴰ·head, List·Memᴰ·tail}
+use mathlib.Core.List.{List·Memᴰ·cases-cons, List·Memᴰ·not-nil}
 use Prim.Native.Nat.{ℕ, zero, suc, _+_, _-_, _≤_, _<_}
 use native.Mathlib.Numerals.{add-one}
 use native.Mathlib.Omega.{arith}
 use lib.Dec.{eqb}
 use lib.ListN.{length, getD, set, length-map}
 use lib.Seq.{getD-set-same, getD-set-other}
-use Rattle.grammar.specs.CountingTheorems.{NoRepeat}
+use Rattle.grammar.specs.Counting.{NoRepeat}
 use Rattle.grammar.proofs.NoRepeat.{no-repeat-map}
-use Rattle.saturation.specs.Table.{tableSize, reasonsSize, fromState, symbolAt, toState, place, reasonPlace, reasonState, reasonVariable}
-use Rattle.saturation.proofs.Places.{to-state-below, place-of-parts, reason-state-place, reason-variable-place, to-state-reason-place}
-use Rattle.forms.specs.ListingParts.{isListed, DonePlace}
+use Rattle.saturation.specs.Table.{tableSize, reasonsSize, fromState, symbolAt, toState, place, reasonPlace}
+use Rattle.saturation.specs.Table.{reasonState, reasonVariable}
+use Rattle.saturation.proofs.Tables.Places.{to-state-below, place-of-parts, reason-state-place, reason-variable-place}
+use Rattle.saturation.proofs.Tables.Places.{to-state-reason-place}
+use Rattle.forms.specs.Listing.{isListed}
+use Rattle.forms.specs.Grounded.{DonePlace}
 use Rattle.forms.proofs.Distinct.{no-more-than}
 
 -- a place of a path: done, a variable's, not listed, and lower than those before it
@@ -32,9 +36,11 @@ module _ {height : ℕ → ℕ} {t now : List ℕ} where
   chain-apart : {ps : List ℕ} → Chain height t now ps → NoRepeat ps
   unfolding NoRepeat
   chain-apart Chain.end = tt
-  chain-apart (Chain.link {p = p} a c) = (λ m. let low : height p < height p = a .lowest p m in omega arith, chain-apart c)
+  chain-apart (Chain.link {p = p} a c) =
+      (λ m. let low : height p < height p = a .lowest p m in omega arith, chain-apart c)
 
-  pub chain-link : {ps : List ℕ} → Chain height t now ps → (q : ℕ) → List·Memᴰ q ps → DonePlace t q × (symbolAt q < 32)
+  pub chain-link :
+      {ps : List ℕ} → Chain height t now ps → (q : ℕ) → List·Memᴰ q ps → DonePlace t q × (symbolAt q < 32)
   chain-link Chain.end q m = absurd (List·Memᴰ·not-nil m)
   chain-link (Chain.link a c) q m =
       ⊎-elim (λ e. rw e (a .done, a .is-variable)) (λ m'. chain-link c q m') (List·Memᴰ·cases-cons m)
@@ -47,7 +53,8 @@ module _ {height : ℕ → ℕ} {t now : List ℕ} where
 
   -- another place's mark leaves the path as it is
   pub chain-kept :
-      (x : ℕ) {ps : List ℕ} → ((q : ℕ) → List·Memᴰ q ps → q ≡ x → ⊥) → Chain height t now ps → Chain height t (set now x 3) ps
+      (x : ℕ) {ps : List ℕ} → ((q : ℕ) → List·Memᴰ q ps → q ≡ x → ⊥) → Chain height t now ps →
+      Chain height t (set now x 3) ps
   chain-kept x other Chain.end = Chain.end
   chain-kept x other (Chain.link {p = p} a c) =
       Chain.link
@@ -86,7 +93,8 @@ module _ {height : ℕ → ℕ} {t now : List ℕ} where
           sym (place-of-parts p h)
           ∙ ap (λ z. place z A r) (sym (reason-state-place q A r v (to-state-below p)))
           ∙ ap (λ z. place (reasonState (at p)) z r) (sym (reason-variable-place q A r v (to-state-below p)))
-          ∙ ap (λ z. place (reasonState (at p)) (reasonVariable (at p)) z) (sym (to-state-reason-place q A r (to-state-below p)))
+          ∙ ap (λ z. place (reasonState (at p)) (reasonVariable (at p)) z)
+          (sym (to-state-reason-place q A r (to-state-below p)))
 
       same : (p q : ℕ) → DonePlace t p × (symbolAt p < 32) → DonePlace t q × (symbolAt q < 32) → at p ≡ at q → p ≡ q
       same p q a b e = back p (a .0 .within) (a .1) ∙ ap from e ∙ sym (back q (b .0 .within) (b .1))

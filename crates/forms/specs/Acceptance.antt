@@ -1,35 +1,53 @@
--- Whether a form is accepted on a table, and along which states. Assumes nothing.
-use Prim.Native.Nat.{ℕ, zero, suc}
-use mathlib.Core.Bool.{Bool, false, cond, _&&_, _||_}
+-- Whether a form is accepted, and along which states, by the final states and the transitions that are done. Assumes
+-- nothing.
+use mathlib.Core.Path.{_≡_}
+use Prim.Native.Nat.{ℕ, zero, suc, _<_, _≤_}
+use mathlib.Core.Bool.{Bool, true, false, _&&_, _||_}
 use mathlib.Core.List.{List, [], _∷_}
+use lib.ListN.{length, getD}
+use Rattle.grammar.specs.Rule.{Among, ProductionsOf}
+use Rattle.grammar.specs.Derivation.{Derives}
+use Rattle.grammar.specs.Automaton.{Holds, Path}
 use Rattle.job.specs.Job.{Job}
-use Rattle.saturation.specs.Table.{place, doneAt}
+use Rattle.saturation.specs.Table.{place}
+use Rattle.saturation.specs.Step.{firstFrom}
+
+-- The job: the bytes of a form are symbols, variables or terminals, from 0 to 63
+abbrev pub SymbolsFit : List ℕ → Type 0
+SymbolsFit form = (i : ℕ) → i < length form → getD form i 0 ≤ 63
 
 -- some number below n passes the test
 unfoldable pub some : (ℕ → Bool) → ℕ → Bool
 some f zero = false
 some f (suc n) = some f n || f n
 
--- 01, Forms and listings: "Ask reads done bytes (2 or 3) as the transitions, with the job's I and F records", "over all 32 state numbers":
--- the rest of a form leads from a state to a final one
-unfoldable pub canFinish : Job → List ℕ → List ℕ → ℕ → Bool
-canFinish J t [] q = J .final q
-canFinish J t (X ∷ w) q = some (λ r. doneAt t q X r && canFinish J t w r) 32
+-- Forms and listings: a form is read along done transitions, with all 32 state numbers as states. Whether its rest
+-- leads from a state to a final one
+unfoldable pub canFinish : (ℕ → Bool) → (ℕ → ℕ → ℕ → Bool) → List ℕ → ℕ → Bool
+canFinish final done [] q = final q
+canFinish final done (X ∷ w) q = some (λ r. done q X r && canFinish final done w r) 32
 
--- 01: "An empty form is accepted if the initial state is final."
-abbrev pub isAccepted : Job → List ℕ → List ℕ → Bool
-isAccepted J t w = canFinish J t w (J .initial)
-
--- the first of k numbers from i on that passes the test, i + k where there is none
-unfoldable pub firstFrom : (ℕ → Bool) → ℕ → ℕ → ℕ
-firstFrom f i zero = i
-firstFrom f i (suc k) = cond (f i) i (firstFrom f (suc i) k)
+-- Forms and listings: a form is accepted if it can finish from the initial state; the empty form is if that state is
+-- final
+abbrev pub isAccepted : (ℕ → Bool) → (ℕ → ℕ → ℕ → Bool) → ℕ → List ℕ → Bool
+isAccepted final done initial form = canFinish final done form initial
 
 -- the lowest next state from which the rest of the form can still finish
-unfoldable pub nextState : Job → List ℕ → ℕ → List ℕ → ℕ → ℕ
-nextState J t X w q = firstFrom (λ r. doneAt t q X r && canFinish J t w r) 0 32
+unfoldable pub nextState : (ℕ → Bool) → (ℕ → ℕ → ℕ → Bool) → ℕ → List ℕ → ℕ → ℕ
+nextState final done X w q = firstFrom (λ r. done q X r && canFinish final done w r) 0 32
 
--- 01: "the accepting state sequence that comes first in lexicographic order": the places of its transitions from a state on
-unfoldable pub route : Job → List ℕ → List ℕ → ℕ → List ℕ
-route J t [] q = []
-route J t (X ∷ w) q = place q X (nextState J t X w q) ∷ route J t w (nextState J t X w q)
+-- Forms and listings: of all accepting state sequences the one that comes first in lexicographic order is listed: the
+-- places of its transitions from a state on
+unfoldable pub route : (ℕ → Bool) → (ℕ → ℕ → ℕ → Bool) → List ℕ → ℕ → List ℕ
+route final done [] q = []
+route final done (X ∷ w) q =
+    place q X (nextState final done X w q) ∷ route final done w (nextState final done X w q)
+
+-- The demands, 2: the form derives, by the job's rules, some string along which the given transitions lead from the
+-- initial state to a final one. That is membership in pre* of the language of the job's automaton ([Esparza], section
+-- 3).
+abbrev pub DerivesGiven : Job → List ℕ → Type 0
+DerivesGiven J form =
+    (β : List ℕ) × (r : ℕ) × Derives (ProductionsOf (Among (J .rules))) form β × Path (Holds (J .given))
+    (J .initial) β r
+    × (J .final r ≡ true)

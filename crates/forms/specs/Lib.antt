@@ -1,8 +1,6 @@
 pub mod Acceptance
 pub mod Listing
+pub mod Grounded
 pub mod Operations
-pub mod AcceptanceTheorems
-pub mod Parts
-pub mod ListingParts
-pub mod ListingTheorems
-pub mod ExplainParts
+pub mod Inside
+pub mod Theorems

@@ -1,30 +1,31 @@
 // From which states the rest of a form can finish, and the accepting state sequence that comes first.
+use crate::FINISH_FLAGS;
 ghost use mathlib.Core.Path.{_≡_};
-ghost use mathlib.Core.Bool.{_&&_};
+ghost use mathlib.Core.Bool.{true, _&&_};
 ghost use Prim.Native.Nat.{_+_, _<_, _≤_};
-ghost use lib.Dec.{eqb};
 ghost use lib.ListN.{length, getD, take};
-ghost use Rattle.job.specs.Job.{Job};
-ghost use Rattle.saturation.specs.Table.{isDone};
-ghost use Rattle.forms.specs.Acceptance.{firstFrom, route};
-ghost use Rattle.forms.specs.Parts.{FormFits, FinalFlags, FinishFlags, Accepts, goesOn, stateFlag, RowFilled};
+ghost use Rattle.saturation.specs.Table.{tableSize, isDone, doneAt};
+ghost use Rattle.saturation.specs.Step.{firstFrom};
+ghost use Rattle.forms.specs.Acceptance.{route};
+ghost use Rattle.forms.specs.Inside.AcceptanceParts.{FormFits, FinishFlags, RowFilled, flagged};
+ghost use Rattle.forms.specs.Inside.AcceptanceParts.{flaggedAt, finalIn, goesOn, stateFlag};
 
 // Whether a transition is done and its target can finish.
-fn step_finishes(table: &[u8], finish: &[u8; 2080], place: usize, target: usize) -> bool
-    requires { ⌜ (place < length (now table)) × (target < 2080) ⌝ }
-    ensures { λ r. ⌜ r ≡ (isDone (getD (now (table .entry)) place 0) && eqb (getD (now (finish .entry)) target 0) 1) ⌝ }
+fn step_finishes(table: &[u8], finish: &[u8; FINISH_FLAGS], place: usize, target: usize) -> bool
+    requires within { ⌜ (place < length (now table)) × (target < 2080) ⌝ }
+    ensures both { λ r. ⌜ r ≡ (isDone (getD (now (table .entry)) place 0) && flagged (now (finish .entry)) target) ⌝ }
 {
-    if table[place] / 2 != 1 {
-        return false;
+    if saturation::table::is_done(table[place]) {
+        return finish[target] == 1;
     }
-    finish[target] == 1
+    false
 }
 
-// The lowest state to which a transition done with a symbol leads and from which the form can finish at the position after it, 32 where
-// there is none.
-fn next_state(table: &[u8], finish: &[u8; 2080], symbol: usize, next: usize, q: usize) -> usize
-    requires { ⌜ (65536 ≤ length (now table)) × (symbol ≤ 63) × (next ≤ 64) × (q < 32) ⌝ }
-    ensures { λ r. ⌜ r ≡ firstFrom (goesOn (now (table .entry)) (now (finish .entry)) symbol next q) 0 32 ⌝ }
+// The lowest state to which a transition done with a symbol leads and from which the form can finish at the position
+// after it, 32 where there is none.
+fn next_state(table: &[u8], finish: &[u8; FINISH_FLAGS], symbol: usize, next: usize, q: usize) -> usize
+    requires within { ⌜ (tableSize ≤ length (now table)) × (symbol ≤ 63) × (next ≤ 64) × (q < 32) ⌝ }
+    ensures first { λ r. ⌜ r ≡ firstFrom (goesOn (now (table .entry)) (now (finish .entry)) symbol next q) 0 32 ⌝ }
 {
     let from = q * 2048 + symbol * 32;
     let row = next * 32;
@@ -39,9 +40,9 @@ fn next_state(table: &[u8], finish: &[u8; 2080], symbol: usize, next: usize, q: 
 }
 
 // The flag of a state: 1 where there is such a next state, else 0.
-fn state_flag(table: &[u8], finish: &[u8; 2080], symbol: usize, next: usize, q: usize) -> u8
-    requires { ⌜ (65536 ≤ length (now table)) × (symbol ≤ 63) × (next ≤ 64) × (q < 32) ⌝ }
-    ensures { λ r. ⌜ r ≡ stateFlag (now (table .entry)) (now (finish .entry)) symbol next q ⌝ }
+fn state_flag(table: &[u8], finish: &[u8; FINISH_FLAGS], symbol: usize, next: usize, q: usize) -> u8
+    requires within { ⌜ (tableSize ≤ length (now table)) × (symbol ≤ 63) × (next ≤ 64) × (q < 32) ⌝ }
+    ensures flag { λ r. ⌜ r ≡ stateFlag (now (table .entry)) (now (finish .entry)) symbol next q ⌝ }
 {
     if next_state(table, finish, symbol, next, q) < 32 {
         return 1;
@@ -50,9 +51,10 @@ fn state_flag(table: &[u8], finish: &[u8; 2080], symbol: usize, next: usize, q: 
 }
 
 // The row of flags of a position, from that of the next one.
-fn fill_row(table: &[u8], finish: &mut [u8; 2080], symbol: usize, position: usize)
-    requires { ⌜ (65536 ≤ length (now table)) × (symbol ≤ 63) × (position < 64) × (length (now finish) ≡ 2080) ⌝ }
-    ensures { λ _. ⌜
+fn fill_row(table: &[u8], finish: &mut [u8; FINISH_FLAGS], symbol: usize, position: usize)
+    requires within { ⌜ (tableSize ≤ length (now table)) × (symbol ≤ 63) × (position < 64)
+        × (length (now finish) ≡ 2080) ⌝ }
+    ensures filled { λ _. ⌜
         RowFilled (now (finish .entry)) (now (finish .exit)) position
         (stateFlag (now (table .entry)) (now (finish .entry)) symbol (position + 1)) 32 ⌝ }
 {
@@ -65,9 +67,10 @@ fn fill_row(table: &[u8], finish: &mut [u8; 2080], symbol: usize, position: usiz
 }
 
 // The row of flags of the end of the form: those of the final states.
-fn fill_finals(finals: &[u8; 32], finish: &mut [u8; 2080], end: usize)
-    requires { ⌜ (end ≤ 64) × (length (now finish) ≡ 2080) ⌝ }
-    ensures { λ _. ⌜ RowFilled (now (finish .entry)) (now (finish .exit)) end (λ q. getD (now (finals .entry)) q 0) 32 ⌝ }
+fn fill_finals(finals: &[u8; 32], finish: &mut [u8; FINISH_FLAGS], end: usize)
+    requires within { ⌜ (end ≤ 64) × (length (now finish) ≡ 2080) ⌝ }
+    ensures filled { λ _. ⌜
+        RowFilled (now (finish .entry)) (now (finish .exit)) end (λ q. getD (now (finals .entry)) q 0) 32 ⌝ }
 {
     let row = end * 32;
     let mut q = 0;
@@ -78,11 +81,10 @@ fn fill_finals(finals: &[u8; 32], finish: &mut [u8; 2080], end: usize)
 }
 
 // Fills a flag for each position of the form and each state: 1 where the form from there on leads to a final state.
-pub fn fill_finish(table: &[u8], form: &[u8], finals: &[u8; 32], finish: &mut [u8; 2080])
-    requires { ⌜ (65536 ≤ length (now table)) × FormFits (now form) × (length (now finish) ≡ 2080) ⌝ }
-    ensures { λ _. ⌜
-        ((J : Job) → FinalFlags J (now (finals .entry)) →
-        FinishFlags J (now (table .entry)) (now (form .entry)) (now (finish .exit))) ⌝ }
+pub fn fill_finish(table: &[u8], form: &[u8], finals: &[u8; 32], finish: &mut [u8; FINISH_FLAGS])
+    requires fits { ⌜ (tableSize ≤ length (now table)) × FormFits (now form) × (length (now finish) ≡ 2080) ⌝ }
+    ensures flags { λ _. ⌜
+        FinishFlags (flagged (now (finals .entry))) (now (table .entry)) (now (form .entry)) (now (finish .exit)) ⌝ }
 {
     let mut i = form.len();
     fill_finals(finals, finish, i);
@@ -92,13 +94,23 @@ pub fn fill_finish(table: &[u8], form: &[u8], finals: &[u8; 32], finish: &mut [u
     }
 }
 
-// Fills the places of the transitions of the accepting state sequence that comes first, where the form is accepted from the state q.
-pub fn fill_route(table: &[u8], form: &[u8], finish: &[u8; 2080], q: usize, places: &mut [u16; 64])
-    requires { ⌜ (65536 ≤ length (now table)) × FormFits (now form) × (q < 32) × (length (now places) ≡ 64) ×
-        ((J : Job) × Accepts J (now table) (now form) (now finish) q) ⌝ }
-    ensures { λ _. ⌜
-        ((J : Job) → Accepts J (now (table .entry)) (now (form .entry)) (now (finish .entry)) q →
-        take (length (now (form .entry))) (now (places .exit)) ≡ route J (now (table .entry)) (now (form .entry)) q) ⌝ }
+// Fills the places of the transitions of the accepting state sequence that comes first, where the form can finish
+// from the state q. The final states are those that the flags of the form's end say.
+pub fn fill_route(
+    table: &[u8],
+    form: &[u8],
+    finish: &[u8; FINISH_FLAGS],
+    q: usize,
+    places: &mut [u16; job::FORM_SYMBOLS],
+)
+    requires fits { ⌜ (tableSize ≤ length (now table)) × FormFits (now form) × (q < 32)
+        × (length (now places) ≡ 64) ⌝ }
+    requires finishes { ⌜ FinishFlags (finalIn (now form) (now finish)) (now table) (now form) (now finish)
+        × (flaggedAt (now finish) 0 q ≡ true) ⌝ }
+    ensures route { λ _. ⌜
+        take (length (now (form .entry))) (now (places .exit))
+        ≡ route (finalIn (now (form .entry)) (now (finish .entry))) (doneAt (now (table .entry)))
+        (now (form .entry)) q ⌝ }
 {
     let mut at = q;
     let mut i = 0;

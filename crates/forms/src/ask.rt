@@ -1,5 +1,6 @@
 // Ask, for every input.
 use crate::Asked;
+use crate::FINISH_FLAGS;
 use crate::acceptance;
 use job::Checked;
 ghost use mathlib.Core.Path.{_≡_};
@@ -7,9 +8,9 @@ ghost use Rattle.forms.specs.Operations.{formCheck, askCheck, askOf};
 
 // Refusals 12 and 11 of a form.
 pub fn form_check(form: &[u8]) -> Checked
-    ensures { λ c. ⌜ c ≡ formCheck (now (form .entry)) ⌝ }
+    ensures checked { λ c. ⌜ c ≡ formCheck (now (form .entry)) ⌝ }
 {
-    if 64 < form.len() {
+    if job::FORM_SYMBOLS < form.len() {
         return Checked {
             number: 12,
             place: form.len(),
@@ -17,7 +18,7 @@ pub fn form_check(form: &[u8]) -> Checked
     }
     let mut i = 0;
     while i < form.len() {
-        if 63 < form[i] {
+        if !grammar::is_symbol(form[i]) {
             return Checked {
                 number: 11,
                 place: i,
@@ -33,9 +34,9 @@ pub fn form_check(form: &[u8]) -> Checked
 
 // The checks of ask: the table, the job, the form.
 fn ask_check(job: &[u8], table: &[u8], form: &[u8]) -> Checked
-    ensures { λ c. ⌜ c ≡ askCheck (now (job .entry)) (now (table .entry)) (now (form .entry)) ⌝ }
+    ensures checked { λ c. ⌜ c ≡ askCheck (now (job .entry)) (now (table .entry)) (now (form .entry)) ⌝ }
 {
-    if table.len() < 65536 {
+    if table.len() < job::TABLE_BYTES {
         return Checked {
             number: 10,
             place: 1,
@@ -50,7 +51,7 @@ fn ask_check(job: &[u8], table: &[u8], form: &[u8]) -> Checked
 
 // Whether a form is accepted on a lent table, which is only read.
 pub fn ask(job: &[u8], table: &[u8], form: &[u8]) -> Asked
-    ensures { λ r. ⌜ r ≡ askOf (now (job .entry)) (now (table .entry)) (now (form .entry)) ⌝ }
+    ensures answer { λ r. ⌜ r ≡ askOf (now (job .entry)) (now (table .entry)) (now (form .entry)) ⌝ }
 {
     let c = ask_check(job, table, form);
     if c.number != 0 {
@@ -61,7 +62,7 @@ pub fn ask(job: &[u8], table: &[u8], form: &[u8]) -> Asked
         };
     }
     let finals = job::lookup::final_states(job);
-    let mut finish = [0u8; 2080];
+    let mut finish = [0u8; FINISH_FLAGS];
     acceptance::fill_finish(table, form, &finals, &mut finish);
     let q = job::lookup::field_of(job, b'I') as usize;
     Asked {

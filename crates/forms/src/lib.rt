@@ -6,6 +6,12 @@ pub mod listing;
 pub mod listing_theorems;
 pub mod theorems;
 
+// A flag for each of the 65 positions of a form and each of the 32 states.
+pub const FINISH_FLAGS: usize = 2080;
+
+// The reason of a given transition.
+pub const GIVEN_REASON: u16 = 65535;
+
 // What ask answers: a refusal's number and place, 0 and 0 where nothing is refused, and whether the form is accepted.
 pub struct Asked {
     pub number: usize,
@@ -13,7 +19,8 @@ pub struct Asked {
     pub accepted: bool,
 }
 
-// What explain answers: a refusal's number and place, whether the form is accepted, and the number of listing records.
+// What explain answers: a refusal's number and place, whether the form is accepted, and the number of listing
+// records.
 pub struct Explained {
     pub number: usize,
     pub place: usize,
@@ -22,12 +29,13 @@ pub struct Explained {
 }
 
 // A walk down the reasons: how long its path is, and how many transitions are listed.
-pub struct Walk {
+pub struct PathWalk {
     pub depth: usize,
     pub count: usize,
 }
 
-// What a record says of a transition's reason: the kind byte of its rule, or G, with the rule's fields 2 and 3 and the middle state.
+// What a record says of a transition's reason: the kind byte of its rule, or G, with the rule's fields 2 and 3 and
+// the middle state.
 pub struct ReasonBytes {
     pub kind: u8,
     pub second: u8,

@@ -1,38 +1,48 @@
-// The listing: depth first down the reasons, premises before what they explain, each transition once. The path is kept in a local array, as a
-// chain of reasons can be tens of thousands long.
+// The listing: depth first down the reasons, premises before what they explain, each transition once. The path is
+// kept in a local array, as a chain of reasons can be tens of thousands long. Rules are read from their sort keys, at
+// their ranks.
+use crate::GIVEN_REASON;
+use crate::PathWalk;
 use crate::ReasonBytes;
-use crate::Walk;
 ghost use mathlib.Core.Path.{_≡_};
 ghost use mathlib.Core.Bool.{cond};
 ghost use mathlib.Core.List.{[], _∷_};
 ghost use Prim.Native.Nat.{_+_, _<_, _≤_};
-ghost use lib.Dec.{eqb};
+ghost use lib.Dec.{eqb, leb};
 ghost use lib.ListN.{length, take};
 ghost use lib.Seq.{sets};
-ghost use Rattle.job.specs.Keys.{ruleOfKey};
-ghost use Rattle.job.specs.Job.{Job};
-ghost use Rattle.saturation.specs.Table.{tableSize, reasonsSize, each};
-ghost use Rattle.forms.specs.Listing.{reasonAt, premises, recordOf};
-ghost use Rattle.forms.specs.ListingParts.{DonePlace, Grounded, HasReason, CanList, Room, CanMove, CanVisit, CanListAll, KeysHold, passOf, walkingOf, keysJob, bytesOfRule, reasonBytes, firstUnlisted, listOne, visitOne, moved, passOver, unmarked};
+ghost use Rattle.job.specs.Inside.Keys.{ruleOfKey};
+ghost use Rattle.saturation.specs.Table.{tableSize, reasonsSize, symbolAt, each};
+ghost use Rattle.forms.specs.Listing.{reasonAt, premises, ruleBytes, reasonBytes, recordOf, unmarked};
+ghost use Rattle.forms.specs.Grounded.{DonePlace};
+ghost use Rattle.forms.specs.Inside.ListingParts.{rulesOf, fiveBytes, HasReason, CanList, RoomFor, CanMove};
+ghost use Rattle.forms.specs.Inside.ListingParts.{CanVisit, CanListAll, passOf, walkingOf, firstUnlisted};
+ghost use Rattle.forms.specs.Inside.ListingParts.{listOne, visitOne, moved, passOver};
+
+// Whether the label of the transition at a place is a terminal.
+fn terminal_at(p: usize) -> bool
+    ensures terminal { λ r. ⌜ r ≡ leb 32 (symbolAt p) ⌝ }
+{
+    grammar::is_terminal((p / 32 % 64) as u8)
+}
 
 // The reason of the transition at a place; a terminal's is given.
 fn reason_at(reasons: &[u16], p: usize) -> u16
-    requires { ⌜ (p < tableSize) × (reasonsSize ≤ length (now reasons)) ⌝ }
-    ensures { λ r. ⌜ r ≡ reasonAt (now (reasons .entry)) p ⌝ }
+    requires within { ⌜ (p < tableSize) × (reasonsSize ≤ length (now reasons)) ⌝ }
+    ensures reason { λ r. ⌜ r ≡ reasonAt (now (reasons .entry)) p ⌝ }
 {
-    let symbol = p / 32 % 64;
-    if 32 <= symbol {
-        return 65535;
+    if terminal_at(p) {
+        return GIVEN_REASON;
     }
-    reasons[p / 2048 * 1024 + symbol * 32 + p % 32]
+    reasons[p / 2048 * 1024 + p / 32 % 64 * 32 + p % 32]
 }
 
 // The bytes of a rule with a middle state in a record.
 fn rule_bytes(key: u32, middle: u8) -> ReasonBytes
-    ensures { λ r. ⌜ r ≡ bytesOfRule middle (ruleOfKey key) ⌝ }
+    ensures bytes { λ r. ⌜ fiveBytes r ≡ ruleBytes middle (ruleOfKey key) ⌝ }
 {
-    let kind = key / 65536 % 256;
-    if kind == 69 {
+    let rule = job::rules::unpack(key);
+    if rule.kind == b'E' {
         return ReasonBytes {
             kind: b'E',
             second: 0,
@@ -40,31 +50,29 @@ fn rule_bytes(key: u32, middle: u8) -> ReasonBytes
             middle: 0,
         };
     }
-    let second = (key / 256 % 256) as u8;
-    if kind == 85 {
+    if rule.kind == b'U' {
         return ReasonBytes {
             kind: b'U',
-            second,
+            second: rule.second,
             third: 0,
             middle: 0,
         };
     }
-    let third = (key % 256) as u8;
     ReasonBytes {
         kind: b'P',
-        second,
-        third,
+        second: rule.second,
+        third: rule.third,
         middle,
     }
 }
 
 // The bytes of the reason of a done transition in its record.
-fn reason_bytes(reasons: &[u16], keys: &[u32; 256], p: usize) -> ReasonBytes
-    requires { ⌜ HasReason (now keys) (now reasons) p ⌝ }
-    ensures { λ r. ⌜ r ≡ reasonBytes (keysJob (now (keys .entry))) (now (reasons .entry)) p ⌝ }
+fn reason_bytes(reasons: &[u16], keys: &[u32], p: usize) -> ReasonBytes
+    requires fits { ⌜ HasReason (rulesOf (now keys)) (now reasons) p ⌝ }
+    ensures bytes { λ r. ⌜ fiveBytes r ≡ reasonBytes (rulesOf (now (keys .entry))) (now (reasons .entry)) p ⌝ }
 {
     let reason = reason_at(reasons, p);
-    if reason == 65535 {
+    if reason == GIVEN_REASON {
         return ReasonBytes {
             kind: b'G',
             second: 0,
@@ -79,8 +87,8 @@ fn reason_bytes(reasons: &[u16], keys: &[u32; 256], p: usize) -> ReasonBytes
 
 // The first of two places that is not listed, 65,536 where both are.
 fn first_unlisted(table: &[u8], a: usize, b: usize) -> usize
-    requires { ⌜ (a < length (now table)) × (b < length (now table)) ⌝ }
-    ensures { λ r. ⌜ r ≡ firstUnlisted (now (table .entry)) (a ∷ b ∷ []) ⌝ }
+    requires within { ⌜ (a < length (now table)) × (b < length (now table)) ⌝ }
+    ensures first { λ r. ⌜ r ≡ firstUnlisted (now (table .entry)) (a ∷ b ∷ []) ⌝ }
 {
     if table[a] != 3 {
         return a;
@@ -88,13 +96,14 @@ fn first_unlisted(table: &[u8], a: usize, b: usize) -> usize
     if table[b] != 3 {
         return b;
     }
-    65536
+    job::TABLE_BYTES
 }
 
 // The first premise of a done transition that is not listed, 65,536 where there is none.
-fn next_premise(table: &[u8], reasons: &[u16], keys: &[u32; 256], p: usize) -> usize
-    requires { ⌜ CanList (now keys) (now reasons) (now table) × DonePlace (now table) p ⌝ }
-    ensures { λ r. ⌜ r ≡ firstUnlisted (now (table .entry)) (premises (keysJob (now (keys .entry))) (now (reasons .entry)) p) ⌝ }
+fn next_premise(table: &[u8], reasons: &[u16], keys: &[u32], p: usize) -> usize
+    requires able { ⌜ CanList (rulesOf (now keys)) (now reasons) (now table) × DonePlace (now table) p ⌝ }
+    ensures next { λ r. ⌜ r
+        ≡ firstUnlisted (now (table .entry)) (premises (rulesOf (now (keys .entry))) (now (reasons .entry)) p) ⌝ }
 {
     let why = reason_bytes(reasons, keys, p);
     let from = p / 2048;
@@ -113,14 +122,15 @@ fn next_premise(table: &[u8], reasons: &[u16], keys: &[u32; 256], p: usize) -> u
             middle * 2048 + third * 32 + to,
         );
     }
-    65536
+    job::TABLE_BYTES
 }
 
 // Writes the record of a done transition.
-fn write_record(reasons: &[u16], keys: &[u32; 256], p: usize, listing: &mut [u8], at: usize)
-    requires { ⌜ HasReason (now keys) (now reasons) p ⌝ }
-    requires { ⌜ at + 8 ≤ length (now listing) ⌝ }
-    ensures { λ _. ⌜ now (listing .exit) ≡ sets (now (listing .entry)) at (recordOf (keysJob (now (keys .entry))) (now (reasons .entry)) p) ⌝ }
+fn write_record(reasons: &[u16], keys: &[u32], p: usize, listing: &mut [u8], at: usize)
+    requires fits { ⌜ HasReason (rulesOf (now keys)) (now reasons) p ⌝ }
+    requires room { ⌜ at + 8 ≤ length (now listing) ⌝ }
+    ensures written { λ _. ⌜ now (listing .exit)
+        ≡ sets (now (listing .entry)) at (recordOf (rulesOf (now (keys .entry))) (now (reasons .entry)) p) ⌝ }
 {
     let why = reason_bytes(reasons, keys, p);
     listing[at] = (p / 2048) as u8;
@@ -133,20 +143,22 @@ fn write_record(reasons: &[u16], keys: &[u32; 256], p: usize, listing: &mut [u8]
     listing[at + 7] = 0;
 }
 
-// Lists a done transition: its table byte becomes 3, and its record is written where that is wanted. Returns how many are listed then.
+// Lists a done transition: its table byte becomes 3, and its record is written where that is wanted. Returns how many
+// are listed then.
 fn list_one(
     table: &mut [u8],
     reasons: &[u16],
-    keys: &[u32; 256],
+    keys: &[u32],
     listing: &mut [u8],
     write: bool,
     count: usize,
     p: usize,
 ) -> usize
-    requires { ⌜ (p < length (now table)) × (count < tableSize) × HasReason (now keys) (now reasons) p ⌝ }
-    requires { ⌜ Room write (count + 1) (now listing) ⌝ }
-    ensures { λ r. ⌜ passOf (now (table .exit)) r (now (listing .exit))
-        ≡ listOne write (keysJob (now (keys .entry))) (now (reasons .entry)) p
+    requires fits { ⌜ (p < length (now table)) × (count < tableSize)
+        × HasReason (rulesOf (now keys)) (now reasons) p ⌝ }
+    requires room { ⌜ RoomFor write (count + 1) (now listing) ⌝ }
+    ensures listed { λ r. ⌜ passOf (now (table .exit)) r (now (listing .exit))
+        ≡ listOne write (rulesOf (now (keys .entry))) (now (reasons .entry)) p
         (passOf (now (table .entry)) count (now (listing .entry))) ⌝ }
 {
     table[p] = 3;
@@ -161,34 +173,34 @@ fn list_one(
 fn walk_step(
     table: &mut [u8],
     reasons: &[u16],
-    keys: &[u32; 256],
-    path: &mut [u16; 32768],
+    keys: &[u32],
+    path: &mut [u16; job::REASON_NUMBERS],
     listing: &mut [u8],
     write: bool,
-    w: Walk,
-) -> Walk
-    requires { ⌜ CanMove write (now keys) (now reasons)
+    w: PathWalk,
+) -> PathWalk
+    requires able { ⌜ CanMove write (rulesOf (now keys)) (now reasons)
         (walkingOf (now table) (w .count) (now listing) (now path) (w .depth)) ⌝ }
-    ensures { λ r. ⌜ walkingOf (now (table .exit)) (r .count) (now (listing .exit)) (now (path .exit)) (r .depth)
-        ≡ moved write (keysJob (now (keys .entry))) (now (reasons .entry))
+    ensures moved { λ r. ⌜ walkingOf (now (table .exit)) (r .count) (now (listing .exit)) (now (path .exit)) (r .depth)
+        ≡ moved write (rulesOf (now (keys .entry))) (now (reasons .entry))
         (walkingOf (now (table .entry)) (w .count) (now (listing .entry)) (now (path .entry)) (w .depth)) ⌝ }
 {
     let depth = w.depth;
     let p = path[depth - 1] as usize;
     let next = next_premise(table, reasons, keys, p);
-    if next == 65536 {
+    if next == job::TABLE_BYTES {
         let count = list_one(table, reasons, keys, listing, write, w.count, p);
-        return Walk {
+        return PathWalk {
             depth: depth - 1,
             count,
         };
     }
-    if 32 <= next / 32 % 64 {
+    if terminal_at(next) {
         let count = list_one(table, reasons, keys, listing, write, w.count, next);
-        return Walk { depth, count };
+        return PathWalk { depth, count };
     }
     path[depth] = next as u16;
-    Walk {
+    PathWalk {
         depth: depth + 1,
         count: w.count,
     }
@@ -198,27 +210,28 @@ fn walk_step(
 fn visit(
     table: &mut [u8],
     reasons: &[u16],
-    keys: &[u32; 256],
-    path: &mut [u16; 32768],
+    keys: &[u32],
+    path: &mut [u16; job::REASON_NUMBERS],
     listing: &mut [u8],
     write: bool,
     count: usize,
     p: usize,
 ) -> usize
-    requires { ⌜ CanVisit write (now keys) (now reasons) (now path) p (passOf (now table) count (now listing)) ⌝ }
+    requires able { ⌜ CanVisit write (rulesOf (now keys)) (now reasons) (now path) p
+        (passOf (now table) count (now listing)) ⌝ }
     ensures pass { λ r. ⌜ passOf (now (table .exit)) r (now (listing .exit))
-        ≡ visitOne write (keysJob (now (keys .entry))) (now (reasons .entry)) p
+        ≡ visitOne write (rulesOf (now (keys .entry))) (now (reasons .entry)) p
         (passOf (now (table .entry)) count (now (listing .entry))) ⌝ }
     ensures path { λ _. ⌜ length (now (path .exit)) ≡ reasonsSize ⌝ }
 {
     if table[p] == 3 {
         return count;
     }
-    if 32 <= p / 32 % 64 {
+    if terminal_at(p) {
         return list_one(table, reasons, keys, listing, write, count, p);
     }
     path[0] = p as u16;
-    let mut w = Walk { depth: 1, count };
+    let mut w = PathWalk { depth: 1, count };
     while 0 < w.depth {
         w = walk_step(table, reasons, keys, path, listing, write, w);
     }
@@ -229,19 +242,20 @@ fn visit(
 pub fn list_all(
     table: &mut [u8],
     reasons: &[u16],
-    keys: &[u32; 256],
-    route: &[u16; 64],
+    keys: &[u32],
+    route: &[u16; job::FORM_SYMBOLS],
     n: usize,
     listing: &mut [u8],
     write: bool,
 ) -> usize
-    requires { ⌜ (n ≤ 64) × (n ≤ length (now route)) ⌝ }
-    requires { ⌜ CanListAll write (now keys) (now reasons) (now table) (take n (now route)) (now listing) ⌝ }
-    ensures { λ r. ⌜ ((J : Job) → KeysHold J (now (keys .entry)) → Grounded J (now (reasons .entry)) (now (table .entry)) →
-        passOf (now (table .exit)) r (now (listing .exit))
-        ≡ passOver write J (now (reasons .entry)) (now (table .entry)) (take n (now (route .entry))) (now (listing .entry))) ⌝ }
+    requires sequence { ⌜ (n ≤ 64) × (n ≤ length (now route)) ⌝ }
+    requires able { ⌜ CanListAll write (rulesOf (now keys)) (now reasons) (now table) (take n (now route))
+        (now listing) ⌝ }
+    ensures listed { λ r. ⌜ passOf (now (table .exit)) r (now (listing .exit))
+        ≡ passOver write (rulesOf (now (keys .entry))) (now (reasons .entry)) (now (table .entry))
+        (take n (now (route .entry))) (now (listing .entry)) ⌝ }
 {
-    let mut path = [0u16; 32768];
+    let mut path = [0u16; job::REASON_NUMBERS];
     let mut count = 0;
     let mut i = 0;
     while i < n {
@@ -262,7 +276,7 @@ pub fn list_all(
 
 // Takes the mark of a listing from a table byte.
 fn without_mark(b: u8) -> u8
-    ensures { λ r. ⌜ r ≡ cond (eqb b 3) 2 b ⌝ }
+    ensures byte { λ r. ⌜ r ≡ cond (eqb b 3) 2 b ⌝ }
 {
     if b == 3 {
         return 2;
@@ -272,11 +286,11 @@ fn without_mark(b: u8) -> u8
 
 // Takes the marks of a listing back.
 pub fn unmark(table: &mut [u8])
-    requires { ⌜ tableSize ≤ length (now table) ⌝ }
-    ensures { λ _. ⌜ now (table .exit) ≡ each unmarked 0 (now (table .entry)) ⌝ }
+    requires long { ⌜ tableSize ≤ length (now table) ⌝ }
+    ensures unmarked { λ _. ⌜ now (table .exit) ≡ each unmarked 0 (now (table .entry)) ⌝ }
 {
     let mut i = 0;
-    while i < 65536 {
+    while i < job::TABLE_BYTES {
         table[i] = without_mark(table[i]);
         i += 1;
     }

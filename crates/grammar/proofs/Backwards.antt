@@ -1,48 +1,57 @@
--- What the rules carry from body to head, a derivation carries backwards: from the form that it ends in to the form that it starts from.
--- So no equation between two joined strings is ever solved. Assumes nothing.
+-- What the productions carry from body to head, a derivation carries backwards: from the form that it ends in to the
+-- form that it starts from. So no equation between two joined strings is ever solved. Assumes nothing.
 use Prim.Native.Nat.{ℕ}
 use mathlib.Core.Logic.{⊎-elim}
 use mathlib.Core.List.{List, [], _∷_, _++_}
-use Rattle.grammar.specs.Rule.{Rule, Rules, head, body}
-use Rattle.grammar.specs.Derivation.{Step, by-rule, Derives, none, more}
-use Rattle.grammar.proofs.Strings.{All, cons, all-left, all-right, Any, here, there, any-left, any-right, any-append}
+use Rattle.grammar.specs.Rule.{Rule, Rules, head, body, Productions, ProductionsOf, of-rule}
+use Rattle.grammar.specs.Derivation.{Step, by-production, Derives, none, more}
+use Rattle.grammar.proofs.Strings.{All, cons, all-left, all-right, Any, here, there, any-left, any-right}
+use Rattle.grammar.proofs.Strings.{any-append}
 use Rattle.grammar.proofs.Strings.{Focus, on, past, focus-append}
+
+-- what each rule carries from body to head, each production of the rules does
+pub by-rules :
+    {R : Rules} (F : List ℕ → Type 0) (P : ℕ → Type 0) → ((ρ : Rule) → R ρ → F (body ρ) → P (head ρ)) →
+    (A : ℕ) (β : List ℕ) → ProductionsOf R A β → F β → P A
+by-rules F P up A β (of-rule ρ r) = up ρ r
 
 -- a property of forms that each step carries backwards
 pub before-derivation :
-    {R : Rules} {F : List ℕ → Type 0} {α β : List ℕ} →
-    ((α β : List ℕ) → Step R α β → F β → F α) → Derives R α β → F β → F α
+    {G : Productions} {F : List ℕ → Type 0} {α β : List ℕ} →
+    ((α β : List ℕ) → Step G α β → F β → F α) → Derives G α β → F β → F α
 before-derivation back none f = f
 before-derivation back (more {α = α} {β = β} s d) f = back α β s (before-derivation back d f)
 
-module _ {R : Rules} {P : ℕ → Type 0} (up : (ρ : Rule) → R ρ → Any P (body ρ) → P (head ρ)) where
-  pub any-before-rule : (α : List ℕ) (ρ : Rule) (γ : List ℕ) → R ρ → Any P (α ++ (body ρ ++ γ)) → Any P (α ++ (head ρ ∷ γ))
-  any-before-rule α ρ γ r a =
-      ⊎-elim (any-left (head ρ ∷ γ))
-      (λ b. any-right α (⊎-elim (λ c. here (up ρ r c)) there (any-append (body ρ) b)))
+module _ {G : Productions} {P : ℕ → Type 0} (up : (A : ℕ) (β : List ℕ) → G A β → Any P β → P A) where
+  pub any-before :
+      (α : List ℕ) {A : ℕ} {β : List ℕ} (γ : List ℕ) → G A β → Any P (α ++ (β ++ γ)) → Any P (α ++ (A ∷ γ))
+  any-before α {A} {β} γ p a =
+      ⊎-elim (any-left (A ∷ γ))
+      (λ b. any-right α (⊎-elim (λ c. here (up A β p c)) there (any-append β b)))
       (any-append α a)
 
-module _ {R : Rules} {Q : ℕ → Type 0} (up : (ρ : Rule) → R ρ → All Q (body ρ) → Q (head ρ)) where
-  all-before-rule : (α : List ℕ) (ρ : Rule) (γ : List ℕ) → R ρ → All Q (α ++ (body ρ ++ γ)) → All Q (α ++ (head ρ ∷ γ))
-  all-before-rule [] ρ γ r qs = cons (up ρ r (all-left (body ρ) γ qs)) (all-right (body ρ) qs)
-  all-before-rule (X ∷ α) ρ γ r (cons q qs) = cons q (all-before-rule α ρ γ r qs)
+module _ {G : Productions} {Q : ℕ → Type 0} (up : (A : ℕ) (β : List ℕ) → G A β → All Q β → Q A) where
+  all-before-production :
+      (α : List ℕ) {A : ℕ} {β : List ℕ} (γ : List ℕ) → G A β → All Q (α ++ (β ++ γ)) → All Q (α ++ (A ∷ γ))
+  all-before-production [] {A} {β} γ p qs = cons (up A β p (all-left β γ qs)) (all-right β qs)
+  all-before-production (X ∷ α) γ p (cons q qs) = cons q (all-before-production α γ p qs)
 
-  all-before-step : (α β : List ℕ) → Step R α β → All Q β → All Q α
-  all-before-step α β (by-rule α₁ ρ γ r) qs = all-before-rule α₁ ρ γ r qs
+  all-before-step : (α β : List ℕ) → Step G α β → All Q β → All Q α
+  all-before-step α β (by-production α₁ γ p) qs = all-before-production α₁ γ p qs
 
-  pub all-before : {α β : List ℕ} → Derives R α β → All Q β → All Q α
+  pub all-before : {α β : List ℕ} → Derives G α β → All Q β → All Q α
   all-before = before-derivation {F = All Q} all-before-step
 
-  module _ {P : ℕ → Type 0} (up-focus : (ρ : Rule) → R ρ → Focus P Q (body ρ) → P (head ρ)) where
-    focus-before-rule :
-        (α : List ℕ) (ρ : Rule) (γ : List ℕ) → R ρ → Focus P Q (α ++ (body ρ ++ γ)) → Focus P Q (α ++ (head ρ ∷ γ))
-    focus-before-rule [] ρ γ r f =
-        ⊎-elim (λ e. on (up-focus ρ r (e .0)) (e .1)) (λ e. past (up ρ r (e .0)) (e .1)) (focus-append (body ρ) γ f)
-    focus-before-rule (X ∷ α) ρ γ r (on p qs) = on p (all-before-rule α ρ γ r qs)
-    focus-before-rule (X ∷ α) ρ γ r (past q f) = past q (focus-before-rule α ρ γ r f)
+  module _ {P : ℕ → Type 0} (up-focus : (A : ℕ) (β : List ℕ) → G A β → Focus P Q β → P A) where
+    focus-before-production :
+        (α : List ℕ) {A : ℕ} {β : List ℕ} (γ : List ℕ) → G A β → Focus P Q (α ++ (β ++ γ)) → Focus P Q (α ++ (A ∷ γ))
+    focus-before-production [] {A} {β} γ p f =
+        ⊎-elim (λ e. on (up-focus A β p (e .0)) (e .1)) (λ e. past (up A β p (e .0)) (e .1)) (focus-append β γ f)
+    focus-before-production (X ∷ α) γ p (on x qs) = on x (all-before-production α γ p qs)
+    focus-before-production (X ∷ α) γ p (past q f) = past q (focus-before-production α γ p f)
 
-    focus-before-step : (α β : List ℕ) → Step R α β → Focus P Q β → Focus P Q α
-    focus-before-step α β (by-rule α₁ ρ γ r) f = focus-before-rule α₁ ρ γ r f
+    focus-before-step : (α β : List ℕ) → Step G α β → Focus P Q β → Focus P Q α
+    focus-before-step α β (by-production α₁ γ p) f = focus-before-production α₁ γ p f
 
-    pub focus-before : {α β : List ℕ} → Derives R α β → Focus P Q β → Focus P Q α
+    pub focus-before : {α β : List ℕ} → Derives G α β → Focus P Q β → Focus P Q α
     focus-before = before-derivation {F = Focus P Q} focus-before-step

@@ -1,4 +1,5 @@
--- Small laws of tests, pairs and sums that every crate needs: case analysis on a test that keeps the equation. Assumes nothing.
+-- Small laws of tests, pairs and sums that every crate needs: case analysis on a test that keeps the equation.
+-- Assumes nothing.
 use mathlib.Core.Path.{_≡_, refl, sym, _∙_}
 use mathlib.Core.Logic.{_⊎_, inl, inr, _↔_}
 use mathlib.Core.Bool.{Bool, true, false, _&&_, _||_, true≢false, false≢true}
@@ -7,15 +8,6 @@ use mathlib.Core.Bool.{Bool, true, false, _&&_, _||_, true≢false, false≢true
 pub cases : {P : Type 0} (b : Bool) → (b ≡ true → P) → (b ≡ false → P) → P
 cases true f g = f refl
 cases false f g = g refl
-
--- the same, as a sum
-pub decided : (b : Bool) → (b ≡ true) ⊎ (b ≡ false)
-decided true = inl refl
-decided false = inr refl
-
--- equal parts make equal pairs
-pub pair-path : {A B : Type 0} {a a' : A} {b b' : B} → a ≡ a' → b ≡ b' → _≡_ {A = A × B} (a, b) (a', b')
-pair-path p q = λ i. (p i, q i)
 
 -- no test is true and false
 pub true-and-false : {P : Type 0} {b : Bool} → b ≡ true → b ≡ false → P

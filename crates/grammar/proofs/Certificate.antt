@@ -1,8 +1,8 @@
--- What certificates prove, on one page: lists that pass the tests are exactly the smallest closed set, with its counts, and exactly the
--- generating and the reached symbols. Assumes nothing.
+-- What certificates prove, on one page: lists that pass the tests are exactly the smallest closed set, with its
+-- counts, and exactly the generating and the reached symbols. Assumes nothing.
 use mathlib.Core.Path.{_≡_}
 use mathlib.Core.Logic.{_↔_}
-use mathlib.Core.Bool.{Bool, true, false, _&&_}
+use mathlib.Core.Bool.{Bool, true, _&&_}
 use mathlib.Core.List.{List}
 use Prim.Native.Nat.{ℕ, _<_}
 use lib.ListN.{length, length-map}
@@ -10,11 +10,12 @@ use Rattle.grammar.specs.Rule.{Rule, Among}
 use Rattle.grammar.specs.Automaton.{Transitions}
 use Rattle.grammar.specs.Closure.{Closure}
 use Rattle.grammar.specs.Counting.{HasCount, meetings}
-use Rattle.grammar.specs.Inductive.{Generating, Reached}
-use Rattle.grammar.proofs.Basics.{and-left, and-right, refuted}
+use Rattle.grammar.specs.Theorems.Inductive.{Generating, Reached}
+use Rattle.grammar.proofs.Basics.{and-left, and-right}
 use Rattle.grammar.proofs.Meetings.{Test, PairsIn}
 use Rattle.grammar.proofs.CertificateTests.{Triple, has, hasSymbol}
-use Rattle.grammar.proofs.CertificateClosure.{Line, transition, transitions, Given, certified, certified-closure}
+use Rattle.grammar.proofs.CertificateClosure.{Line, transition, transitions, ListedBy, certified}
+use Rattle.grammar.proofs.CertificateClosure.{certified-closure}
 use Rattle.grammar.proofs.CertificateCounting.{Places, countable, certified-count}
 use Rattle.grammar.proofs.CertificateMeetings.{joins, deciding-meetings}
 use Rattle.grammar.proofs.CertificateSymbols.{generates, certifiedGenerating, certified-generating}
@@ -25,17 +26,12 @@ unfoldable pub closureCertified : (rs : List Rule) (gs : List Triple) (s : ℕ) 
 unfolding certified countable
 closureCertified rs gs s ls = certified rs gs s ls && countable 32 (transitions ls)
 
-module _ (rs : List Rule) (D : Transitions) (gs : List Triple) (s : ℕ) (g : Given D gs) (ls : List Line) (h : closureCertified rs gs s ls ≡ true) where
+module _ (rs : List Rule) (D : Transitions) (gs : List Triple) (s : ℕ) (g : ListedBy D gs) (ls : List Line)
+    (h : closureCertified rs gs s ls ≡ true) where
   -- the list is exactly the smallest closed set
   pub closure-exact : (q X r : ℕ) → (has (transitions ls) q X r ≡ true) ↔ Closure (Among rs) D s q X r
   unfolding closureCertified
   closure-exact = certified-closure rs D gs s g ls (and-left (certified rs gs s ls) (countable 32 (transitions ls)) h)
-
-  pub closure-has : (q X r : ℕ) → has (transitions ls) q X r ≡ true → Closure (Among rs) D s q X r
-  closure-has q X r = closure-exact q X r .0
-
-  pub closure-lacks : (q X r : ℕ) → has (transitions ls) q X r ≡ false → Closure (Among rs) D s q X r → ⊥
-  closure-lacks q X r = refuted (closure-exact q X r)
 
   lines-countable : countable 32 (transitions ls) ≡ true
   unfolding closureCertified
@@ -52,7 +48,8 @@ module _ (rs : List Rule) (D : Transitions) (gs : List Triple) (s : ℕ) (g : Gi
 
   -- and as many pair meetings, by any test that decides it at 32 states and the symbols of W
   pub closure-meetings : (W : ℕ → Type 0) → PairsIn W rs → (t : Test) →
-      ((q X r : ℕ) → q < 32 → W X → r < 32 → (t q X r ≡ true) ↔ Closure (Among rs) D s q X r) → meetings t 32 rs ≡ joins rs (transitions ls)
+      ((q X r : ℕ) → q < 32 → W X → r < 32 → (t q X r ≡ true) ↔ Closure (Among rs) D s q X r) →
+      meetings t 32 rs ≡ joins rs (transitions ls)
   closure-meetings W w =
       deciding-meetings
       32
@@ -72,9 +69,12 @@ symbolsCertified rs S gen reach = certifiedGenerating rs gen && certifiedReached
 module _ (rs : List Rule) (S : ℕ) (gen reach : List ℕ) (h : symbolsCertified rs S gen reach ≡ true) where
   pub generating-exact : (X : ℕ) → (generates gen X ≡ true) ↔ Generating (Among rs) X
   unfolding symbolsCertified
-  generating-exact = certified-generating rs gen (and-left (certifiedGenerating rs gen) (certifiedReached rs S (generates gen) reach) h)
+  generating-exact =
+      certified-generating rs gen
+      (and-left (certifiedGenerating rs gen) (certifiedReached rs S (generates gen) reach) h)
 
   pub reached-exact : (X : ℕ) → (hasSymbol reach X ≡ true) ↔ Reached (Among rs) S X
   unfolding symbolsCertified
   reached-exact =
-      certified-reached rs S (generates gen) generating-exact reach (and-right (certifiedGenerating rs gen) (certifiedReached rs S (generates gen) reach) h)
+      certified-reached rs S (generates gen) generating-exact reach
+      (and-right (certifiedGenerating rs gen) (certifiedReached rs S (generates gen) reach) h)

@@ -1,5 +1,6 @@
--- A certificate of the smallest closed set: its transitions, each with the way in which it comes in, premises later in the list.
--- Sound, since each line is justified by later ones; complete, since nothing that the rules ask for is missing. Assumes nothing.
+-- A certificate of the smallest closed set: its transitions, each with the way in which it comes in, premises later in
+-- the list. Sound, since each line is justified by later ones; complete, since nothing that the rules ask for is
+-- missing. Assumes nothing.
 use mathlib.Core.Path.{_≡_, refl, sym, subst}
 use mathlib.Core.Logic.{⊎-elim, _↔_}
 use mathlib.Core.Bool.{Bool, true, _&&_}
@@ -10,9 +11,10 @@ use borrow.Author.Tests.{eqb-true, eq-eqb, ltb-true}
 use Rattle.grammar.specs.Rule.{Rule, Among, empty, unit, pair}
 use Rattle.grammar.specs.Automaton.{Transitions}
 use Rattle.grammar.specs.Closure.{Closure}
-use Rattle.grammar.specs.PaperExamples.{Listed}
+use Rattle.grammar.specs.Theorems.Examples.{TransitionsOf}
 use Rattle.grammar.proofs.Basics.{and-left, and-right, and-both}
-use Rattle.grammar.proofs.CertificateTests.{Triple, every, every-member, every-below, every-below-member, implies, implies-true, has, has-member, hasRule, has-rule-member}
+use Rattle.grammar.proofs.CertificateTests.{Triple, every, every-member, every-below, every-below-member}
+use Rattle.grammar.proofs.CertificateTests.{implies, implies-true, has, has-member, hasRule, has-rule-member}
 
 -- how a transition (q, A, r) comes in: given; by A → ε; by A → X; by A → X Y with a middle state m
 pub data Way : Type 0 where
@@ -43,7 +45,8 @@ justified rs gs s ts q A r (by-pair X m Y) = hasRule rs (pair A X Y) && (has ts 
 unfoldable pub grounded : (rs : List Rule) (gs : List Triple) (s : ℕ) → List Line → Bool
 unfolding has hasRule
 grounded rs gs s [] = true
-grounded rs gs s (l ∷ ls) = justified rs gs s (transitions ls) (l .0 .0) (l .0 .1) (l .0 .2) (l .1) && grounded rs gs s ls
+grounded rs gs s (l ∷ ls) =
+    justified rs gs s (transitions ls) (l .0 .0) (l .0 .1) (l .0 .2) (l .1) && grounded rs gs s ls
 
 -- what a rule asks for is there
 abbrev pub satisfied : (s : ℕ) (ts : List Triple) → Rule → Bool
@@ -52,7 +55,9 @@ satisfied s ts (unit A X) = every (λ a. let there : Bool = has ts (a .0) A (a .
 satisfied s ts (pair A X Y) =
     every
     (λ a.
-    let there : Bool = every (λ b. let there : Bool = has ts (a .0) A (b .2) in implies (eqb (b .0) (a .2) && eqb (b .1) Y) there) ts in
+    let there : Bool =
+    every (λ b. let there : Bool = has ts (a .0) A (b .2) in implies (eqb (b .0) (a .2) && eqb (b .1) Y) there) ts
+    in
     implies (eqb (a .1) X) there)
     ts
 
@@ -66,15 +71,16 @@ unfolding has every every-below grounded
 certified rs gs s ls = grounded rs gs s ls && saturated rs gs s (transitions ls)
 
 -- the given transitions are those of the list
-pub record Given (D : Transitions) (gs : List Triple) : Type 0 where
+pub record ListedBy (D : Transitions) (gs : List Triple) : Type 0 where
   pub listed : (q X r : ℕ) → D q X r → List·Memᴰ {A = Triple} (q, X, r) gs
   pub meant : (q X r : ℕ) → List·Memᴰ {A = Triple} (q, X, r) gs → D q X r
 
-pub itself : (gs : List Triple) → Given (Listed gs) gs
+pub itself : (gs : List Triple) → ListedBy (TransitionsOf gs) gs
 itself gs = record { listed = λ q X r m. m; meant = λ q X r m. m }
 
-module _ (rs : List Rule) (D : Transitions) (gs : List Triple) (s : ℕ) (g : Given D gs) where
-  justified-sound : (ts : List Triple) → ((q X r : ℕ) → has ts q X r ≡ true → Closure (Among rs) D s q X r) → (q A r : ℕ) (w : Way) →
+module _ (rs : List Rule) (D : Transitions) (gs : List Triple) (s : ℕ) (g : ListedBy D gs) where
+  justified-sound :
+      (ts : List Triple) → ((q X r : ℕ) → has ts q X r ≡ true → Closure (Among rs) D s q X r) → (q A r : ℕ) (w : Way) →
       justified rs gs s ts q A r w ≡ true → Closure (Among rs) D s q A r
   justified-sound ts ih q A r given h = Closure.given (g .meant q A r (has-member h))
   justified-sound ts ih q A r by-empty h =
@@ -90,7 +96,9 @@ module _ (rs : List Rule) (D : Transitions) (gs : List Triple) (s : ℕ) (g : Gi
       (has-rule-member (and-left (hasRule rs (unit A X)) (has ts q X r) h))
       (ih q X r (and-right (hasRule rs (unit A X)) (has ts q X r) h))
   justified-sound ts ih q A r (by-pair X m Y) h =
-      let rest : (has ts q X m && has ts m Y r) ≡ true = and-right (hasRule rs (pair A X Y)) (has ts q X m && has ts m Y r) h in
+      let rest : (has ts q X m && has ts m Y r) ≡ true =
+      and-right (hasRule rs (pair A X Y)) (has ts q X m && has ts m Y r) h
+      in
       Closure.by-pair
       (has-rule-member (and-left (hasRule rs (pair A X Y)) (has ts q X m && has ts m Y r) h))
       (ih q X m (and-left (has ts q X m) (has ts m Y r) rest))
@@ -122,10 +130,13 @@ module _ (rs : List Rule) (D : Transitions) (gs : List Triple) (s : ℕ) (g : Gi
       (List·Memᴰ·cases-cons m)
 
   -- what the certificate lists is in the smallest closed set
-  pub grounded-sound : (ls : List Line) → grounded rs gs s ls ≡ true → (q X r : ℕ) → has (transitions ls) q X r ≡ true → Closure (Among rs) D s q X r
+  pub grounded-sound :
+      (ls : List Line) → grounded rs gs s ls ≡ true → (q X r : ℕ) → has (transitions ls) q X r ≡ true →
+      Closure (Among rs) D s q X r
   grounded-sound ls h q X r p = member-sound ls h (q, X, r) (has-member p)
 
-  satisfied-unit : (ts : List Triple) (A X q r : ℕ) → satisfied s ts (unit A X) ≡ true → has ts q X r ≡ true → has ts q A r ≡ true
+  satisfied-unit :
+      (ts : List Triple) (A X q r : ℕ) → satisfied s ts (unit A X) ≡ true → has ts q X r ≡ true → has ts q A r ≡ true
   satisfied-unit ts A X q r h p =
       implies-true
       (eqb X X)
@@ -133,10 +144,14 @@ module _ (rs : List Rule) (D : Transitions) (gs : List Triple) (s : ℕ) (g : Gi
       (every-member (λ a. implies (eqb (a .1) X) (has ts (a .0) A (a .2))) h (has-member p))
       (eq-eqb X X refl)
 
-  satisfied-pair : (ts : List Triple) (A X Y q m r : ℕ) → satisfied s ts (pair A X Y) ≡ true → has ts q X m ≡ true → has ts m Y r ≡ true →
+  satisfied-pair :
+      (ts : List Triple) (A X Y q m r : ℕ) → satisfied s ts (pair A X Y) ≡ true → has ts q X m ≡ true →
+      has ts m Y r ≡ true →
       has ts q A r ≡ true
   satisfied-pair ts A X Y q m r h p p' =
-      let from : Triple → Triple → Bool = λ a b. implies (eqb (b .0) (a .2) && eqb (b .1) Y) (has ts (a .0) A (b .2)) in
+      let from : Triple → Triple → Bool =
+      λ a b. implies (eqb (b .0) (a .2) && eqb (b .1) Y) (has ts (a .0) A (b .2))
+      in
       let firsts : every (from (q, X, m)) ts ≡ true =
       implies-true
       (eqb X X)
@@ -150,7 +165,8 @@ module _ (rs : List Rule) (D : Transitions) (gs : List Triple) (s : ℕ) (g : Gi
       (every-member (from (q, X, m)) firsts (has-member p'))
       (and-both (eqb m m) (eqb Y Y) (eq-eqb m m refl) (eq-eqb Y Y refl))
 
-  saturated-rule : (ts : List Triple) (ρ : Rule) → saturated rs gs s ts ≡ true → List·Memᴰ ρ rs → satisfied s ts ρ ≡ true
+  saturated-rule :
+      (ts : List Triple) (ρ : Rule) → saturated rs gs s ts ≡ true → List·Memᴰ ρ rs → satisfied s ts ρ ≡ true
   saturated-rule ts ρ h m =
       every-member
       (satisfied s ts)
@@ -158,7 +174,9 @@ module _ (rs : List Rule) (D : Transitions) (gs : List Triple) (s : ℕ) (g : Gi
       m
 
   -- what is in the smallest closed set is in a list with all that the rules ask for
-  pub saturated-complete : (ts : List Triple) → saturated rs gs s ts ≡ true → {q X r : ℕ} → Closure (Among rs) D s q X r → has ts q X r ≡ true
+  pub saturated-complete :
+      (ts : List Triple) → saturated rs gs s ts ≡ true → {q X r : ℕ} → Closure (Among rs) D s q X r →
+      has ts q X r ≡ true
   saturated-complete ts h (Closure.given {q = q} {X = X} {r = r} d) =
       every-member
       (λ a. has ts (a .0) (a .1) (a .2))
@@ -169,7 +187,8 @@ module _ (rs : List Rule) (D : Transitions) (gs : List Triple) (s : ℕ) (g : Gi
   saturated-complete ts h (Closure.by-unit {A = A} {X = X} {q = q} {r = r} m c) =
       satisfied-unit ts A X q r (saturated-rule ts (unit A X) h m) (saturated-complete ts h c)
   saturated-complete ts h (Closure.by-pair {A = A} {X = X} {Y = Y} {q = q} {m = k} {r = r} m c d) =
-      satisfied-pair ts A X Y q k r (saturated-rule ts (pair A X Y) h m) (saturated-complete ts h c) (saturated-complete ts h d)
+      satisfied-pair ts A X Y q k r (saturated-rule ts (pair A X Y) h m) (saturated-complete ts h c)
+      (saturated-complete ts h d)
 
   -- a certified list is exactly the smallest closed set
   pub certified-closure : (ls : List Line) → certified rs gs s ls ≡ true → (q X r : ℕ) →
@@ -177,5 +196,6 @@ module _ (rs : List Rule) (D : Transitions) (gs : List Triple) (s : ℕ) (g : Gi
   unfolding certified
   certified-closure ls h q X r = (
     grounded-sound ls (and-left (grounded rs gs s ls) (saturated rs gs s (transitions ls)) h) q X r,
-    λ c. saturated-complete (transitions ls) (and-right (grounded rs gs s ls) (saturated rs gs s (transitions ls)) h) c,
+    λ c. saturated-complete (transitions ls) (and-right (grounded rs gs s ls) (saturated rs gs s (transitions ls)) h)
+        c,
   )

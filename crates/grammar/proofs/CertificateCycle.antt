@@ -1,5 +1,6 @@
--- Certificates that a grammar has a cycle through a pair rule, by the cycle, and that it has none, by a rank of the symbols that no useful rule
--- raises and each useful pair rule lowers. Both over a test of the useful symbols. Assumes nothing.
+-- Certificates that a grammar has a cycle through a pair rule, by the cycle, and that it has none, by a rank of the
+-- symbols that no useful rule raises and each useful pair rule lowers. Both over a test of the useful symbols.
+-- Assumes nothing.
 use mathlib.Core.Path.{_≡_, refl, sym, subst}
 use mathlib.Core.Logic.{inl, inr, ⊎-elim}
 use mathlib.Core.Bool.{Bool, true, false, _&&_, _||_, false≢true}
@@ -11,7 +12,7 @@ use borrow.Author.Tests.{eqb-true, leb-true, ltb-true}
 use Rattle.grammar.specs.Rule.{Rule, Rules, Among, head, body, empty, unit, pair}
 use Rattle.grammar.specs.Useful.{Useful}
 use Rattle.grammar.specs.Growing.{AllUseful, UsefulRules}
-use Rattle.grammar.specs.Inductive.{Leads, PairCycle}
+use Rattle.grammar.specs.Theorems.Inductive.{Leads, PairCycle}
 use Rattle.grammar.proofs.Basics.{and-left, and-right, and-both, or-split}
 use Rattle.grammar.proofs.CertificateTests.{every, every-member, some, some-member, implies, implies-true}
 
@@ -57,7 +58,8 @@ module _ (u : ℕ → Bool) (rs : List Rule) (S : ℕ) (complete : (X : ℕ) →
   all-useful-pass [] a = refl
   all-useful-pass (X ∷ α) a = and-both (u X) (every u α) (complete X (a .0)) (all-useful-pass α (a .1))
 
-  ranked : (rank : ℕ → ℕ) → certifiedRank u rs rank ≡ true → (ρ : Rule) → UsefulRules (Among rs) S ρ → lowers rank ρ ≡ true
+  ranked :
+      (rank : ℕ → ℕ) → certifiedRank u rs rank ≡ true → (ρ : Rule) → UsefulRules (Among rs) S ρ → lowers rank ρ ≡ true
   unfolding certifiedRank
   ranked rank h ρ r =
       implies-true
@@ -66,16 +68,24 @@ module _ (u : ℕ → Bool) (rs : List Rule) (S : ℕ) (complete : (X : ℕ) →
       (every-member (λ ρ. implies (allPass u ρ) (lowers rank ρ)) h (r .0))
       (all-useful-pass (head ρ ∷ body ρ) (r .1))
 
-  leads-down : (rank : ℕ → ℕ) → certifiedRank u rs rank ≡ true → {A Z : ℕ} → Leads (UsefulRules (Among rs) S) A Z → rank Z ≤ rank A
+  leads-down :
+      (rank : ℕ → ℕ) → certifiedRank u rs rank ≡ true → {A Z : ℕ} → Leads (UsefulRules (Among rs) S) A Z →
+      rank Z ≤ rank A
   leads-down rank h Leads.here = omega arith
   leads-down rank h (Leads.by-unit {A = A} {X = X} r l) =
       let step : rank X ≤ rank A = leb-true (rank X) (rank A) (ranked rank h (unit A X) r) in
       omega (arith, leads-down rank h l)
   leads-down rank h (Leads.by-left {A = A} {X = X} {Y = Y} r l) =
-      let step : rank X < rank A = ltb-true (rank X) (rank A) (and-left (ltb (rank X) (rank A)) (ltb (rank Y) (rank A)) (ranked rank h (pair A X Y) r)) in
+      let step : rank X < rank A =
+      ltb-true (rank X) (rank A)
+      (and-left (ltb (rank X) (rank A)) (ltb (rank Y) (rank A)) (ranked rank h (pair A X Y) r))
+      in
       omega (arith, leads-down rank h l)
   leads-down rank h (Leads.by-right {A = A} {X = X} {Y = Y} r l) =
-      let step : rank Y < rank A = ltb-true (rank Y) (rank A) (and-right (ltb (rank X) (rank A)) (ltb (rank Y) (rank A)) (ranked rank h (pair A X Y) r)) in
+      let step : rank Y < rank A =
+      ltb-true (rank Y) (rank A)
+      (and-right (ltb (rank X) (rank A)) (ltb (rank Y) (rank A)) (ranked rank h (pair A X Y) r))
+      in
       omega (arith, leads-down rank h l)
 
   -- a certified rank excludes a cycle through a pair rule
@@ -83,8 +93,12 @@ module _ (u : ℕ → Bool) (rs : List Rule) (S : ℕ) (complete : (X : ℕ) →
   certified-no-cycle rank h c =
       let (A, X, Y, r, back) = c in
       let low : (ltb (rank X) (rank A) && ltb (rank Y) (rank A)) ≡ true = ranked rank h (pair A X Y) r in
-      let left : rank X < rank A = ltb-true (rank X) (rank A) (and-left (ltb (rank X) (rank A)) (ltb (rank Y) (rank A)) low) in
-      let right : rank Y < rank A = ltb-true (rank Y) (rank A) (and-right (ltb (rank X) (rank A)) (ltb (rank Y) (rank A)) low) in
+      let left : rank X < rank A =
+      ltb-true (rank X) (rank A) (and-left (ltb (rank X) (rank A)) (ltb (rank Y) (rank A)) low)
+      in
+      let right : rank Y < rank A =
+      ltb-true (rank Y) (rank A) (and-right (ltb (rank X) (rank A)) (ltb (rank Y) (rank A)) low)
+      in
       ⊎-elim (λ l. omega (arith, leads-down rank h l)) (λ l. omega (arith, leads-down rank h l)) back
 
 module _ (u : ℕ → Bool) (rs : List Rule) (S : ℕ) (sound : (X : ℕ) → u X ≡ true → Useful (Among rs) S X) where
@@ -94,7 +108,8 @@ module _ (u : ℕ → Bool) (rs : List Rule) (S : ℕ) (sound : (X : ℕ) → u 
   pass-all-useful : (α : List ℕ) → every u α ≡ true → AllUseful (Among rs) S α
   unfolding AllUseful every
   pass-all-useful [] h = tt
-  pass-all-useful (X ∷ α) h = (sound X (and-left (u X) (every u α) h), pass-all-useful α (and-right (u X) (every u α) h))
+  pass-all-useful (X ∷ α) h =
+      (sound X (and-left (u X) (every u α) h), pass-all-useful α (and-right (u X) (every u α) h))
 
   leads-on : (ρ : Rule) → UR ρ → (X Z A : ℕ) → leads X Z ρ ≡ true → Leads UR Z A → Leads UR X A
   leads-on (empty B) r X Z A h l = absurd (false≢true h)
@@ -130,7 +145,8 @@ module _ (u : ℕ → Bool) (rs : List Rule) (S : ℕ) (sound : (X : ℕ) → u 
   cycle-by A X (empty B) r h l = absurd (false≢true h)
   cycle-by A X (unit B Y) r h l = absurd (false≢true h)
   cycle-by A X (pair B Y W) r h l =
-      let back : Leads UR X B = subst (Leads UR X) (sym (eqb-true B A (and-left (eqb B A) (eqb Y X || eqb W X) h))) l in (
+      let back : Leads UR X B = subst (Leads UR X) (sym (eqb-true B A (and-left (eqb B A) (eqb Y X || eqb W X) h))) l
+      in (
         B,
         Y,
         W,

@@ -1,5 +1,5 @@
--- The tests that the certificates are made of: for all of a list, for all below a bound, membership. Each computes on concrete lists, and a
--- law says what it decides, by induction on the list. Assumes nothing.
+-- The tests that the certificates are made of: for all of a list, for all below a bound, membership. Each computes on
+-- concrete lists, and a law says what it decides, by induction on the list. Assumes nothing.
 use mathlib.Core.Path.{_≡_, refl, sym, _∙_, ap, ap₂}
 use mathlib.Core.Logic.{⊎-elim}
 use mathlib.Core.Bool.{Bool, true, false, not, _&&_, _||_, false≢true}
@@ -9,8 +9,9 @@ use native.Mathlib.Omega.{arith}
 use lib.Dec.{eqb}
 use borrow.Author.Tests.{eqb-true, eqb-false, eq-eqb, not-true}
 use Rattle.grammar.specs.Rule.{Rule, empty, unit, pair}
-use Rattle.grammar.specs.CountingTheorems.{NoRepeat}
-use Rattle.grammar.proofs.Basics.{cases, and-left, and-right, and-both, or-split, or-left, or-right, true-and-false}
+use Rattle.grammar.specs.Counting.{NoRepeat}
+use Rattle.grammar.proofs.Basics.{cases, and-left, and-right, and-both, or-split, or-left, or-right}
+use Rattle.grammar.proofs.Basics.{true-and-false}
 
 -- all elements of a list pass
 unfoldable pub every : {A : Type 0} → (A → Bool) → List A → Bool
@@ -43,7 +44,8 @@ unfoldable pub some : {A : Type 0} → (A → Bool) → List A → Bool
 some f [] = false
 some f (x ∷ xs) = let rest : Bool = some f xs in f x || rest
 
-pub some-member : {A : Type 0} (f : A → Bool) (xs : List A) → some f xs ≡ true → (x : A) × List·Memᴰ x xs × (f x ≡ true)
+pub some-member :
+    {A : Type 0} (f : A → Bool) (xs : List A) → some f xs ≡ true → (x : A) × List·Memᴰ x xs × (f x ≡ true)
 unfolding some
 some-member f [] h = absurd (false≢true h)
 some-member f (x ∷ xs) h =
@@ -58,7 +60,9 @@ member-some f (List·Memᴰ·head {x = y} {xs = ys} e) h = or-left (f y) (some f
 member-some f (List·Memᴰ·tail {x = y} {xs = ys} m) h = or-right (f y) (some f ys) (member-some f m h)
 
 -- some element is the same as x, where same elements are equal
-pub some-same : {A : Type 0} (same : A → A → Bool) → ((x y : A) → same x y ≡ true → x ≡ y) → {x : A} {xs : List A} → some (same x) xs ≡ true →
+pub some-same :
+    {A : Type 0} (same : A → A → Bool) → ((x y : A) → same x y ≡ true → x ≡ y) → {x : A} {xs : List A} →
+    some (same x) xs ≡ true →
     List·Memᴰ x xs
 some-same same equal {x} {xs} h =
     let (y, m, e) = some-member (same x) xs h in
@@ -81,8 +85,12 @@ sameTriple a b = let rest : Bool = eqb (a .1) (b .1) && eqb (a .2) (b .2) in eqb
 
 pub same-triple-equal : (a b : Triple) → sameTriple a b ≡ true → a ≡ b
 same-triple-equal a b h =
-    let p : a .0 ≡ b .0 = eqb-true (a .0) (b .0) (and-left (eqb (a .0) (b .0)) (eqb (a .1) (b .1) && eqb (a .2) (b .2)) h) in
-    let rest : (eqb (a .1) (b .1) && eqb (a .2) (b .2)) ≡ true = and-right (eqb (a .0) (b .0)) (eqb (a .1) (b .1) && eqb (a .2) (b .2)) h in
+    let p : a .0 ≡ b .0 =
+    eqb-true (a .0) (b .0) (and-left (eqb (a .0) (b .0)) (eqb (a .1) (b .1) && eqb (a .2) (b .2)) h)
+    in
+    let rest : (eqb (a .1) (b .1) && eqb (a .2) (b .2)) ≡ true =
+    and-right (eqb (a .0) (b .0)) (eqb (a .1) (b .1) && eqb (a .2) (b .2)) h
+    in
     let q : a .1 ≡ b .1 = eqb-true (a .1) (b .1) (and-left (eqb (a .1) (b .1)) (eqb (a .2) (b .2)) rest) in
     let r : a .2 ≡ b .2 = eqb-true (a .2) (b .2) (and-right (eqb (a .1) (b .1)) (eqb (a .2) (b .2)) rest) in
     λ i. (p i, q i, r i)
@@ -109,7 +117,9 @@ unfolding has
 member-has {q = q} {X = X} {r = r} m = member-some (sameTriple (q, X, r)) m (same-triple-itself (q, X, r))
 
 -- a list within another
-pub listed-within : (ts us : List Triple) → every (λ a. has us (a .0) (a .1) (a .2)) ts ≡ true → {q X r : ℕ} → List·Memᴰ {A = Triple} (q, X, r) ts →
+pub listed-within :
+    (ts us : List Triple) → every (λ a. has us (a .0) (a .1) (a .2)) ts ≡ true → {q X r : ℕ} →
+    List·Memᴰ {A = Triple} (q, X, r) ts →
     List·Memᴰ {A = Triple} (q, X, r) us
 listed-within ts us h m = has-member (every-member (λ a. has us (a .0) (a .1) (a .2)) h m)
 
@@ -132,7 +142,9 @@ unfolding some
 apart same [] = true
 apart same (x ∷ xs) = not (some (same x) xs) && apart same xs
 
-pub apart-no-repeat : {A : Type 0} (same : A → A → Bool) → ((x : A) → same x x ≡ true) → (xs : List A) → apart same xs ≡ true → NoRepeat xs
+pub apart-no-repeat :
+    {A : Type 0} (same : A → A → Bool) → ((x : A) → same x x ≡ true) → (xs : List A) → apart same xs ≡ true →
+    NoRepeat xs
 unfolding apart NoRepeat
 apart-no-repeat same itself [] h = tt
 apart-no-repeat same itself (x ∷ xs) h = (
@@ -165,7 +177,8 @@ same-rule-equal (unit A X) (unit B Y) h =
 same-rule-equal (unit A X) (pair B Y Z) h = absurd (false≢true h)
 same-rule-equal (pair A X Y) (empty B) h = absurd (false≢true h)
 same-rule-equal (pair A X Y) (unit B Z) h = absurd (false≢true h)
-same-rule-equal (pair A X Y) (pair B Z V') h = ap (λ t. pair (t .0) (t .1) (t .2)) (same-triple-equal (A, X, Y) (B, Z, V') h)
+same-rule-equal (pair A X Y) (pair B Z V') h =
+    ap (λ t. pair (t .0) (t .1) (t .2)) (same-triple-equal (A, X, Y) (B, Z, V') h)
 
 unfoldable pub hasRule : List Rule → Rule → Bool
 unfolding some

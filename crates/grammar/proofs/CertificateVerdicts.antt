@@ -1,5 +1,6 @@
--- What a certificate of the symbols proves, in the papers' words: the productive, the reachable and the useful symbols exactly, and by a cycle
--- or a rank whether the grammar grows. The papers' theorems carry the checker's sets over. Assumes nothing.
+-- What a certificate of the symbols proves, in the papers' words: the productive, the reachable and the useful symbols
+-- exactly, and by a cycle or a rank whether the grammar grows. The papers' theorems carry the checker's sets over.
+-- Assumes nothing.
 use mathlib.Core.Path.{_≡_}
 use mathlib.Core.Logic.{_↔_, Iff·symm, Iff·trans, Iff·and}
 use mathlib.Core.Bool.{Bool, true, false, _&&_}
@@ -25,7 +26,8 @@ useful gen reach X = generates gen X && hasSymbol reach X
 
 module _ (rs : List Rule) (S : ℕ) (gen reach : List ℕ) (h : symbolsCertified rs S gen reach ≡ true) where
   pub productive-exact : (X : ℕ) → (generates gen X ≡ true) ↔ Productive (Among rs) X
-  productive-exact X = Iff·trans (generating-exact rs S gen reach h X) (Iff·symm (productive-is-generating (Among rs) X))
+  productive-exact X =
+      Iff·trans (generating-exact rs S gen reach h X) (Iff·symm (productive-is-generating (Among rs) X))
 
   pub in-context-exact : (X : ℕ) → (hasSymbol reach X ≡ true) ↔ InContext (Among rs) S X
   in-context-exact X = Iff·trans (reached-exact rs S gen reach h X) (Iff·symm (in-context-is-reached (Among rs) S X))
@@ -40,12 +42,6 @@ module _ (rs : List Rule) (S : ℕ) (gen reach : List ℕ) (h : symbolsCertified
   -- each verdict and its opposite
   pub productive : (X : ℕ) → generates gen X ≡ true → Productive (Among rs) X
   productive X = productive-exact X .0
-
-  pub not-productive : (X : ℕ) → generates gen X ≡ false → Productive (Among rs) X → ⊥
-  not-productive X = refuted (productive-exact X)
-
-  pub in-context : (X : ℕ) → hasSymbol reach X ≡ true → InContext (Among rs) S X
-  in-context X = in-context-exact X .0
 
   pub not-in-context : (X : ℕ) → hasSymbol reach X ≡ false → InContext (Among rs) S X → ⊥
   not-in-context X = refuted (in-context-exact X)
@@ -62,4 +58,6 @@ module _ (rs : List Rule) (S : ℕ) (gen reach : List ℕ) (h : symbolsCertified
 
   -- by a rank that no useful rule raises and each useful pair rule lowers
   pub not-growing : (rank : ℕ → ℕ) → certifiedRank (useful gen reach) rs rank ≡ true → Growing (Among rs) S → ⊥
-  not-growing rank e g = certified-no-cycle (useful gen reach) rs S (λ X. useful-exact X .1) rank e (growing-is-pair-cycle (Among rs) S .0 g)
+  not-growing rank e g =
+      certified-no-cycle (useful gen reach) rs S (λ X. useful-exact X .1) rank e
+      (growing-is-pair-cycle (Among rs) S .0 g)

@@ -1,17 +1,18 @@
--- A grammar grows if and only if a pair rule stands on a cycle. A derivation carries backwards 'a symbol leads to X through a pair rule, or a
--- symbol leads to X and does not stand alone'; of X alone only the first can hold. Assumes nothing.
+-- A grammar grows if and only if a pair rule stands on a cycle. A derivation carries backwards 'a symbol leads to X
+-- through a pair rule, or a symbol leads to X and does not stand alone'; of X alone only the first can hold.
+-- Assumes nothing.
 use Prim.Native.Nat.{ℕ, _<_, _≤_}
 use mathlib.Core.Logic.{_⊎_, inl, inr, ⊎-elim, _↔_}
 use mathlib.Core.List.{List, [], _∷_, _++_}
 use native.Mathlib.Omega.{arith}
 use lib.ListN.{length, length-append}
-use Rattle.grammar.specs.Rule.{Rule, Rules, head, body, unit, pair}
-use Rattle.grammar.specs.Derivation.{Step, by-rule, Derives, none}
+use Rattle.grammar.specs.Rule.{Rule, Rules, ProductionsOf, of-rule, head, body, unit, pair}
+use Rattle.grammar.specs.Derivation.{Step, by-production, Derives, none}
 use Rattle.grammar.specs.Growing.{AllUseful, UsefulRules, Growing}
-use Rattle.grammar.specs.Inductive.{Leads, PairCycle}
+use Rattle.grammar.specs.Theorems.Inductive.{Leads, PairCycle}
 use Rattle.grammar.proofs.Strings.{Any, here, there, any-left, any-right, any-append, any-length}
 use Rattle.grammar.proofs.Derivations.{derives-rule, derives-inside}
-use Rattle.grammar.proofs.Backwards.{before-derivation, any-before-rule}
+use Rattle.grammar.proofs.Backwards.{by-rules, before-derivation, any-before}
 
 pub leads-trans : {R : Rules} {A B C : ℕ} → Leads R A B → Leads R B C → Leads R A C
 leads-trans Leads.here m = m
@@ -22,20 +23,23 @@ leads-trans (Leads.by-right r l) m = Leads.by-right r (leads-trans l m)
 pub leads-grows : {R R′ : Rules} {A B : ℕ} → ((ρ : Rule) → R ρ → R′ ρ) → Leads R A B → Leads R′ A B
 leads-grows rules Leads.here = Leads.here
 leads-grows rules (Leads.by-unit {A = A} {X = X} r l) = Leads.by-unit (rules (unit A X) r) (leads-grows rules l)
-leads-grows rules (Leads.by-left {A = A} {X = X} {Y = Y} r l) = Leads.by-left (rules (pair A X Y) r) (leads-grows rules l)
-leads-grows rules (Leads.by-right {A = A} {X = X} {Y = Y} r l) = Leads.by-right (rules (pair A X Y) r) (leads-grows rules l)
+leads-grows rules (Leads.by-left {A = A} {X = X} {Y = Y} r l) =
+    Leads.by-left (rules (pair A X Y) r) (leads-grows rules l)
+leads-grows rules (Leads.by-right {A = A} {X = X} {Y = Y} r l) =
+    Leads.by-right (rules (pair A X Y) r) (leads-grows rules l)
 
 -- A leads to X through a pair rule
 abbrev PairLeads : Rules → ℕ → ℕ → Type 0
 PairLeads R X A = (B : ℕ) × (Y : ℕ) × (Z : ℕ) × Leads R A B × R (pair B Y Z) × (Leads R Y X ⊎ Leads R Z X)
 
--- some symbol of the string leads to X through a pair rule, or some symbol leads to X and the string has others besides
+-- some symbol of the string leads to X through a pair rule, or some symbol leads to X and the string has others
+-- besides
 abbrev Grown : Rules → ℕ → List ℕ → Type 0
 Grown R X α = Any (PairLeads R X) α ⊎ (Any (λ A. Leads R A X) α × (2 ≤ length α))
 
 -- A derives a form in which X stands
 abbrev pub Around : Rules → ℕ → ℕ → Type 0
-Around R A X = (α : List ℕ) × (β : List ℕ) × Derives R (A ∷ []) (α ++ (X ∷ β))
+Around R A X = (α : List ℕ) × (β : List ℕ) × Derives (ProductionsOf R) (A ∷ []) (α ++ (X ∷ β))
 
 module _ {R : Rules} where
   -- a rule's head leads to each symbol of its body
@@ -57,17 +61,22 @@ module _ {R : Rules} where
 
   -- the one place where a pair rule comes in: X was below its body
   grown-body :
-      (X : ℕ) (α : List ℕ) (ρ : Rule) (γ : List ℕ) → R ρ → Any (λ A. Leads R A X) (body ρ) → 2 ≤ length (α ++ (body ρ ++ γ)) →
+      (X : ℕ) (α : List ℕ) (ρ : Rule) (γ : List ℕ) → R ρ → Any (λ A. Leads R A X) (body ρ) →
+      2 ≤ length (α ++ (body ρ ++ γ)) →
       Grown R X (α ++ (head ρ ∷ γ))
   grown-body X α (unit A Y) γ r a l =
-      inr (any-right α (here (leads-rule X (unit A Y) r a)), simp length-append (omega (arith, simp length-append at l)))
+      inr
+      (any-right α (here (leads-rule X (unit A Y) r a)), simp length-append (omega (arith, simp length-append at l)))
   grown-body X α (pair A Y Z) γ r (here p) l = inl (any-right α (here (A, Y, Z, Leads.here, r, inl p)))
   grown-body X α (pair A Y Z) γ r (there (here p)) l = inl (any-right α (here (A, Y, Z, Leads.here, r, inr p)))
 
   grown-rule :
-      (X : ℕ) (α : List ℕ) (ρ : Rule) (γ : List ℕ) → R ρ → Grown R X (α ++ (body ρ ++ γ)) → Grown R X (α ++ (head ρ ∷ γ))
-  grown-rule X α ρ γ r (inl a) = inl (any-before-rule (pair-leads-rule X) α ρ γ r a)
-  grown-rule X α ρ γ r (inr e) = ⊎-elim at-left (λ a. ⊎-elim at-body at-right (any-append (body ρ) a)) (any-append α (e .0))
+      (X : ℕ) (α : List ℕ) (ρ : Rule) (γ : List ℕ) → R ρ → Grown R X (α ++ (body ρ ++ γ)) →
+      Grown R X (α ++ (head ρ ∷ γ))
+  grown-rule X α ρ γ r (inl a) =
+      inl (any-before (by-rules (Any (PairLeads R X)) (PairLeads R X) (pair-leads-rule X)) α γ (of-rule ρ r) a)
+  grown-rule X α ρ γ r (inr e) =
+      ⊎-elim at-left (λ a. ⊎-elim at-body at-right (any-append (body ρ) a)) (any-append α (e .0))
     where
       at-left : Any (λ A. Leads R A X) α → Grown R X (α ++ (head ρ ∷ γ))
       at-left a = inr (any-left (head ρ ∷ γ) a, simp length-append (omega (arith, any-length a)))
@@ -78,11 +87,14 @@ module _ {R : Rules} where
       at-right : Any (λ A. Leads R A X) γ → Grown R X (α ++ (head ρ ∷ γ))
       at-right a = inr (any-right α (there a), simp length-append (omega (arith, any-length a)))
 
-  grown-step : (X : ℕ) (α β : List ℕ) → Step R α β → Grown R X β → Grown R X α
-  grown-step X α β (by-rule α₁ ρ γ r) g = grown-rule X α₁ ρ γ r g
+  grown-step : (X : ℕ) (α β : List ℕ) → Step (ProductionsOf R) α β → Grown R X β → Grown R X α
+  grown-step X α β (by-production α₁ γ (of-rule ρ r)) g = grown-rule X α₁ ρ γ r g
 
-  derives-pair-leads : (X : ℕ) (α β : List ℕ) → Derives R (X ∷ []) (α ++ (X ∷ β)) → 0 < length (α ++ β) → PairLeads R X X
-  derives-pair-leads X α β d l = alone (before-derivation {F = Grown R X} (grown-step X) d (inr (any-right α (here Leads.here), two)))
+  derives-pair-leads :
+      (X : ℕ) (α β : List ℕ) → Derives (ProductionsOf R) (X ∷ []) (α ++ (X ∷ β)) → 0 < length (α ++ β) →
+      PairLeads R X X
+  derives-pair-leads X α β d l =
+      alone (before-derivation {F = Grown R X} (grown-step X) d (inr (any-right α (here Leads.here), two)))
     where
       two : 2 ≤ length (α ++ (X ∷ β))
       two = simp length-append (omega (arith, simp length-append at l))

@@ -1,16 +1,16 @@
--- The symbols in a terminal context are the reached ones: a derivation carries backwards 'one symbol reaches X, all others generate', and each
--- way to reach puts one terminal context into another. Assumes nothing.
+-- The symbols in a terminal context are the reached ones: a derivation carries backwards 'one symbol reaches X, all
+-- others generate', and each way to reach puts one terminal context into another. Assumes nothing.
 use Prim.Native.Nat.{ℕ}
 use mathlib.Core.Logic.{_↔_}
 use mathlib.Core.List.{List, [], _∷_, _++_}
 use Rattle.grammar.specs.Symbol.{Terminals}
-use Rattle.grammar.specs.Rule.{Rule, Rules, head, body, unit, pair}
+use Rattle.grammar.specs.Rule.{Rule, Rules, ProductionsOf, head, body, unit, pair}
 use Rattle.grammar.specs.Derivation.{Derives, none}
 use Rattle.grammar.specs.Useful.{Productive, InContext}
-use Rattle.grammar.specs.Inductive.{Generating, Reached}
+use Rattle.grammar.specs.Theorems.Inductive.{Generating, Reached}
 use Rattle.grammar.proofs.Strings.{All, nil, cons, Focus, on, past, focus-at}
-use Rattle.grammar.proofs.Derivations.{derives-append, derives-rule, derives-inside, derives-grows}
-use Rattle.grammar.proofs.Backwards.{focus-before}
+use Rattle.grammar.proofs.Derivations.{derives-append, derives-rule, derives-inside}
+use Rattle.grammar.proofs.Backwards.{by-rules, focus-before}
 use Rattle.grammar.proofs.Productive.{terminals-append, terminals-generate, generating-rule, generating-derives}
 
 module _ {R : Rules} where
@@ -32,8 +32,14 @@ reached-rule X (pair A Y Z) r (past g (on c nil)) = reached-trans (Reached.by-ri
 -- X is reached from S where S derives a form around X whose other symbols generate
 pub around-reached :
     {R : Rules} {S : ℕ} {α β : List ℕ} (X : ℕ) →
-    All (Generating R) α → All (Generating R) β → Derives R (S ∷ []) (α ++ (X ∷ β)) → Reached R S X
-around-reached {R} {S} X g h d = first (focus-before generating-rule (reached-rule X) d (focus-at X g Reached.start h))
+    All (Generating R) α → All (Generating R) β → Derives (ProductionsOf R) (S ∷ []) (α ++ (X ∷ β)) → Reached R S X
+around-reached {R} {S} X g h d =
+    first
+    (focus-before
+    (by-rules (All (Generating R)) (Generating R) generating-rule)
+    (by-rules (Reaches R X) (λ A. Reached R A X) (reached-rule X))
+    d
+    (focus-at X g Reached.start h))
   where
     first : Reaches R X (S ∷ []) → Reached R S X
     first (on c nil) = c
@@ -69,7 +75,3 @@ reached-in-context {R} {S} (Reached.by-right {A = A} {X = X} {Y = Y} r g c) =
 
 pub in-context-is-reached : (R : Rules) (S X : ℕ) → InContext R S X ↔ Reached R S X
 in-context-is-reached R S X = (in-context-reached R S X, reached-in-context)
-
-pub in-context-grows : (R R′ : Rules) (S X : ℕ) → ((ρ : Rule) → R ρ → R′ ρ) → InContext R S X → InContext R′ S X
-unfolding InContext
-in-context-grows R R′ S X rules c = (c .0, c .1, c .2, c .3, derives-grows rules (c .4))

@@ -1,4 +1,5 @@
 pub mod Basics
+pub mod Classes
 pub mod Totals
 pub mod Counting
 pub mod NoRepeat
@@ -13,14 +14,12 @@ pub mod CertificateReached
 pub mod CertificateCycle
 pub mod Certificate
 pub mod CertificateVerdicts
-pub mod CertificateExamples
 pub mod PaperExamples
 pub mod Strings
 pub mod Derivations
 pub mod Backwards
 pub mod Paths
 pub mod Smallest
-pub mod ClosureGrows
 pub mod PreStar
 pub mod Productive
 pub mod InContext

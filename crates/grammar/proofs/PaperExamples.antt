@@ -1,5 +1,5 @@
--- Certificates of the papers' examples: Figure 1 of 002 with the way in which each transition comes in, and the symbols of 003's two grammars
--- with a rank and a cycle. The prover computes each test. Assumes nothing.
+-- Certificates of the papers' examples: Figure 1 of [Esparza] with the way in which each transition comes in, and the
+-- symbols of [Lecture 25]'s two grammars with a rank and a cycle. The prover computes each test. Assumes nothing.
 use mathlib.Core.Path.{_≡_, refl}
 use mathlib.Core.Logic.{_↔_, Iff·symm, Iff·trans}
 use mathlib.Core.Bool.{true, false}
@@ -8,7 +8,8 @@ use Prim.Native.Nat.{ℕ}
 use lib.ListN.{getD}
 use Rattle.grammar.specs.Rule.{Among}
 use Rattle.grammar.specs.Growing.{Growing}
-use Rattle.grammar.specs.PaperExamples.{Listed, figure1Rules, figure1Before, figure1After, Figure1, finiteRules, infiniteRules, Pruned}
+use Rattle.grammar.specs.Theorems.Examples.{TransitionsOf, figure1Rules, figure1Before, figure1After, Figure1}
+use Rattle.grammar.specs.Theorems.Examples.{finiteRules, infiniteRules, Pruned}
 use Rattle.grammar.proofs.Basics.{and-false-right}
 use Rattle.grammar.proofs.Meetings.{pairs-in-all}
 use Rattle.grammar.proofs.CertificateTests.{every, has, hasSymbol, has-member, member-has, listed-within}
@@ -18,7 +19,8 @@ use Rattle.grammar.proofs.CertificateMeetings.{joins, deciding-meetings
 use Rattle.grammar.proofs.CertificateSymbols.{generates}
 use Rattle.grammar.proofs.CertificateCycle.{certifiedRank, certifiedCycle}
 use Rattle.grammar.proofs.Certificate.{closureCertified, closure-exact, symbolsCertified}
-use Rattle.grammar.proofs.CertificateVerdicts.{useful, productive, not-in-context, not-useful, growing, not-growing}
+use Rattle.grammar.proofs.CertificateVerdicts.{useful, productive, not-in-context, not-useful, growing}
+use Rattle.grammar.proofs.CertificateVerdicts.{not-growing}
 
 -- Figure 1, last transition first
 abbrev pub figure1Lines : List Line
@@ -45,7 +47,7 @@ unfolding countable
 after-countable = refl
 
 -- the lines are the transitions of the figure
-same-lines : (q X r : ℕ) → (has (transitions figure1Lines) q X r ≡ true) ↔ Listed figure1After q X r
+same-lines : (q X r : ℕ) → (has (transitions figure1Lines) q X r ≡ true) ↔ TransitionsOf figure1After q X r
 unfolding every has
 same-lines q X r = (
   λ e. listed-within (transitions figure1Lines) figure1After refl (has-member e),
@@ -58,7 +60,9 @@ figure1 =
     record {
       result = λ q X r.
           Iff·trans
-          (Iff·symm (closure-exact figure1Rules (Listed figure1Before) figure1Before 3 (itself figure1Before) figure1Lines figure1-certified q X r))
+          (Iff·symm
+          (closure-exact figure1Rules (TransitionsOf figure1Before) figure1Before 3 (itself figure1Before) figure1Lines
+          figure1-certified q X r))
           (same-lines q X r);
       apart = countable-apart 3 figure1After after-countable;
       number = refl;
@@ -70,7 +74,7 @@ figure1 =
           (pairs-in-all figure1Rules)
           figure1After
           after-countable
-          (Listed figure1After)
+          (TransitionsOf figure1After)
           (λ q X r. (has-member, member-has))
           t
           (λ q X r ql w rl. decides q X r ql rl);

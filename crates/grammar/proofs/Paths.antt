@@ -18,6 +18,7 @@ module _ {D : Transitions} where
   path-below below l here = l
   path-below below l (along {q = q} {X = X} {m = m} d p) = path-below below (below q X m d .1) p
 
-pub path-grows : {D T : Transitions} {q r : ℕ} {α : List ℕ} → ((q X r : ℕ) → D q X r → T q X r) → Path D q α r → Path T q α r
+pub path-grows :
+    {D T : Transitions} {q r : ℕ} {α : List ℕ} → ((q X r : ℕ) → D q X r → T q X r) → Path D q α r → Path T q α r
 path-grows grows here = here
 path-grows grows (along {q = q} {X = X} {m = m} d p) = along (grows q X m d) (path-grows grows p)

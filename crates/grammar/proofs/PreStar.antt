@@ -1,10 +1,10 @@
--- Paths of the closure are derivations into paths of the given automaton. There, each transition of the closure unfolds into a derivation of
--- its symbol; back, saturation takes a path backwards over each step. Assumes nothing.
+-- Paths of the closure are derivations into paths of the given automaton. There, each transition of the closure
+-- unfolds into a derivation of its symbol; back, saturation takes a path backwards over each step. Assumes nothing.
 use Prim.Native.Nat.{ℕ, _<_}
 use mathlib.Core.Logic.{_↔_}
 use mathlib.Core.List.{List, [], _∷_, _++_}
-use Rattle.grammar.specs.Rule.{Rule, Rules, head, body, empty, unit, pair}
-use Rattle.grammar.specs.Derivation.{Step, by-rule, Derives, none, more}
+use Rattle.grammar.specs.Rule.{Rule, Rules, head, body, empty, unit, pair, ProductionsOf, of-rule}
+use Rattle.grammar.specs.Derivation.{Step, by-production, Derives, none, more}
 use Rattle.grammar.specs.Automaton.{Transitions, Path, here, along, StatesBelow}
 use Rattle.grammar.specs.Closure.{Closure}
 use Rattle.grammar.proofs.Derivations.{derives-append, derives-rule}
@@ -13,7 +13,7 @@ use Rattle.grammar.proofs.Smallest.{closure-below, closure-closed}
 
 -- α derives a string that leads from q to r
 abbrev pub DerivesPath : Rules → Transitions → ℕ → List ℕ → ℕ → Type 0
-DerivesPath R D q α r = (β : List ℕ) × Derives R α β × Path D q β r
+DerivesPath R D q α r = (β : List ℕ) × Derives (ProductionsOf R) α β × Path D q β r
 
 module _ {R : Rules} {D : Transitions} where
   derives-beside :
@@ -31,22 +31,24 @@ module _ {R : Rules} {D : Transitions} where
   closure-derives (Closure.by-pair {A = A} {X = X} {Y = Y} ρ c d) =
       derives-above (pair A X Y) ρ (derives-beside {α = X ∷ []} {β = Y ∷ []} (closure-derives c) (closure-derives d))
 
-  -- 002, Lemma 3.1
+  -- [Esparza], Lemma 3.1
   pub path-derives : {s q r : ℕ} {α : List ℕ} → Path (Closure R D s) q α r → DerivesPath R D q α r
   path-derives here = ([], none, here)
   path-derives (along {X = X} {w = w} c p) = derives-beside {α = X ∷ []} {β = w} (closure-derives c) (path-derives p)
 
   module _ {s : ℕ} (below : StatesBelow D s) where
     path-before-step :
-        {q r : ℕ} {α β : List ℕ} → q < s → Step R α β → Path (Closure R D s) q β r → Path (Closure R D s) q α r
-    path-before-step {q} {r} l (by-rule α ρ γ ρ∈R) p =
+        {q r : ℕ} {α β : List ℕ} → q < s → Step (ProductionsOf R) α β → Path (Closure R D s) q β r →
+        Path (Closure R D s) q α r
+    path-before-step {q} {r} l (by-production α γ (of-rule ρ ρ∈R)) p =
         let left = path-split α p in
         let right = path-split (body ρ) (left .2) in
         let m = path-below (closure-below below) l (left .1) in
         path-append (left .1) (along (closure-closed .saturated ρ (left .0) (right .0) ρ∈R m (right .1)) (right .2))
 
-    -- 002, Lemma 3.2
-    pub derives-path : {q r : ℕ} {α β : List ℕ} → q < s → Derives R α β → Path D q β r → Path (Closure R D s) q α r
+    -- [Esparza], Lemma 3.2
+    pub derives-path :
+        {q r : ℕ} {α β : List ℕ} → q < s → Derives (ProductionsOf R) α β → Path D q β r → Path (Closure R D s) q α r
     derives-path l none p = path-grows (λ q X r d. Closure.given d) p
     derives-path l (more t d) p = path-before-step l t (derives-path l d p)
 

@@ -1,16 +1,16 @@
--- The productive symbols are the generating ones: a derivation of a terminal string carries 'every symbol generates' backwards, and each way
--- to generate is a derivation. Assumes nothing.
+-- The productive symbols are the generating ones: a derivation of a terminal string carries 'every symbol generates'
+-- backwards, and each way to generate is a derivation. Assumes nothing.
 use Prim.Native.Nat.{ℕ}
 use mathlib.Core.Logic.{_↔_}
 use mathlib.Core.List.{List, [], _∷_, _++_}
 use Rattle.grammar.specs.Symbol.{Terminals}
-use Rattle.grammar.specs.Rule.{Rule, Rules, head, body, empty, unit, pair}
+use Rattle.grammar.specs.Rule.{Rule, Rules, ProductionsOf, head, body, empty, unit, pair}
 use Rattle.grammar.specs.Derivation.{Derives, none}
 use Rattle.grammar.specs.Useful.{Productive}
-use Rattle.grammar.specs.Inductive.{Generating}
+use Rattle.grammar.specs.Theorems.Inductive.{Generating}
 use Rattle.grammar.proofs.Strings.{All, nil, cons}
-use Rattle.grammar.proofs.Derivations.{derives-append, derives-rule, derives-grows}
-use Rattle.grammar.proofs.Backwards.{all-before}
+use Rattle.grammar.proofs.Derivations.{derives-append, derives-rule}
+use Rattle.grammar.proofs.Backwards.{by-rules, all-before}
 
 pub terminals-append : (v w : List ℕ) → Terminals v → Terminals w → Terminals (v ++ w)
 unfolding Terminals
@@ -29,10 +29,12 @@ module _ {R : Rules} where
   generating-rule (pair A X Y) r (cons g (cons h nil)) = Generating.by-pair r g h
 
   -- each symbol of a form that derives a terminal string generates
-  pub derives-generate : {α : List ℕ} (w : List ℕ) → Terminals w → Derives R α w → All (Generating R) α
-  derives-generate w t d = all-before generating-rule d (terminals-generate w t)
+  pub derives-generate : {α : List ℕ} (w : List ℕ) → Terminals w → Derives (ProductionsOf R) α w → All (Generating R) α
+  derives-generate w t d =
+      all-before (by-rules (All (Generating R)) (Generating R) generating-rule) d (terminals-generate w t)
 
-  productive-above : (ρ : Rule) (w : List ℕ) → R ρ → Terminals w → Derives R (body ρ) w → Productive R (head ρ)
+  productive-above :
+      (ρ : Rule) (w : List ℕ) → R ρ → Terminals w → Derives (ProductionsOf R) (body ρ) w → Productive R (head ρ)
   unfolding Productive
   productive-above ρ w r t d = (w, t, derives-rule ρ r d)
 
@@ -58,7 +60,3 @@ productive-generates R X p = first (derives-generate (p .0) (p .1) (p .2))
 
 pub productive-is-generating : (R : Rules) (X : ℕ) → Productive R X ↔ Generating R X
 productive-is-generating R X = (productive-generates R X, generating-derives)
-
-pub productive-grows : (R R′ : Rules) (X : ℕ) → ((ρ : Rule) → R ρ → R′ ρ) → Productive R X → Productive R′ X
-unfolding Productive
-productive-grows R R′ X rules p = (p .0, p .1, derives-grows rules (p .2))

@@ -1,5 +1,5 @@
--- The closure is the smallest closed set: each way into it is an instance of saturation and the other way round, by cases on the rule.
--- Assumes nothing.
+-- The closure is the smallest closed set: each way into it is an instance of saturation and the other way round, by
+-- cases on the rule. Assumes nothing.
 use Prim.Native.Nat.{ℕ, _<_}
 use Rattle.grammar.specs.Rule.{Rule, Rules, head, body, empty, unit, pair}
 use Rattle.grammar.specs.Automaton.{Transitions, Path, here, along, StatesBelow}
@@ -22,11 +22,13 @@ module _ {R : Rules} {D : Transitions} {s : ℕ} where
   pub closure-closed : Closed R D s (Closure R D s)
   closure-closed = record { given = λ q X r d. Closure.given d; saturated = λ ρ q r m l. closure-saturated ρ q r m l }
 
-  pub closure-least : {T : Transitions} → StatesBelow D s → Closed R D s T → (q X r : ℕ) → Closure R D s q X r → T q X r
+  pub closure-least :
+      {T : Transitions} → StatesBelow D s → Closed R D s T → (q X r : ℕ) → Closure R D s q X r → T q X r
   closure-least below closed q X r (Closure.given d) = closed .given q X r d
   closure-least below closed q X r (Closure.by-empty {A = A} ρ l) = closed .saturated (empty A) q q ρ l here
   closure-least below closed q X r (Closure.by-unit {A = A} {X = Y} ρ c) =
-      closed .saturated (unit A Y) q r ρ (closure-below below q Y r c .0) (along (closure-least below closed q Y r c) here)
+      closed .saturated (unit A Y) q r ρ (closure-below below q Y r c .0)
+      (along (closure-least below closed q Y r c) here)
   closure-least below closed q X r (Closure.by-pair {A = A} {X = Y} {Y = Z} {m = m} ρ c d) =
       closed .saturated (pair A Y Z) q r ρ (closure-below below q Y m c .0)
       (along (closure-least below closed q Y m c) (along (closure-least below closed m Z r d) here))

@@ -1,4 +1,5 @@
--- Strings all of whose symbols, one of whose symbols, or all but one of whose symbols have a property. Assumes nothing.
+-- Strings all of whose symbols, one of whose symbols, or all but one of whose symbols have a property.
+-- Assumes nothing.
 use Prim.Native.Nat.{ℕ, _≤_}
 use mathlib.Core.Logic.{_⊎_, inl, inr}
 use mathlib.Core.List.{List, [], _∷_, _++_}
@@ -62,6 +63,7 @@ module _ {P Q : ℕ → Type 0} where
   focus-append (X ∷ α) β (past q f) = further (focus-append α β f)
     where
       further :
-          (Focus P Q α × All Q β) ⊎ (All Q α × Focus P Q β) → (Focus P Q (X ∷ α) × All Q β) ⊎ (All Q (X ∷ α) × Focus P Q β)
+          (Focus P Q α × All Q β) ⊎ (All Q α × Focus P Q β) →
+          (Focus P Q (X ∷ α) × All Q β) ⊎ (All Q (X ∷ α) × Focus P Q β)
       further (inl e) = inl (past q (e .0), e .1)
       further (inr e) = inr (cons q (e .0), e .1)

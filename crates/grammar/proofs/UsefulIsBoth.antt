@@ -1,13 +1,13 @@
--- A symbol is useful if and only if it is productive and in a terminal context: each symbol of a form that derives a terminal string
--- generates, those around X among them. Assumes nothing.
+-- A symbol is useful if and only if it is productive and in a terminal context: each symbol of a form that derives a
+-- terminal string generates, those around X among them. Assumes nothing.
 use Prim.Native.Nat.{ℕ}
 use mathlib.Core.Logic.{_↔_}
 use mathlib.Core.List.{_∷_, _++_}
-use Rattle.grammar.specs.Rule.{Rule, Rules}
+use Rattle.grammar.specs.Rule.{Rules}
 use Rattle.grammar.specs.Useful.{Productive, InContext, Useful}
-use Rattle.grammar.specs.Inductive.{Generating}
+use Rattle.grammar.specs.Theorems.Inductive.{Generating}
 use Rattle.grammar.proofs.Strings.{All, cons, all-left, all-right}
-use Rattle.grammar.proofs.Derivations.{derives-context, derives-grows}
+use Rattle.grammar.proofs.Derivations.{derives-context}
 use Rattle.grammar.proofs.Productive.{terminals-append, derives-generate, generating-derives}
 use Rattle.grammar.proofs.InContext.{around-reached, reached-in-context}
 
@@ -36,7 +36,3 @@ module _ (R : Rules) (S X : ℕ) where
 
   pub useful-is-both : Useful R S X ↔ (Productive R X × InContext R S X)
   useful-is-both = (useful-both, λ b. both-useful (b .0) (b .1))
-
-pub useful-grows : (R R′ : Rules) (S X : ℕ) → ((ρ : Rule) → R ρ → R′ ρ) → Useful R S X → Useful R′ S X
-unfolding Useful
-useful-grows R R′ S X rules u = (u .0, u .1, u .2, u .3, derives-grows rules (u .4), derives-grows rules (u .5))

@@ -12,7 +12,7 @@ Transitions = ℕ → ℕ → ℕ → Type 0
 abbrev pub Holds : (ℕ → ℕ → ℕ → Bool) → Transitions
 Holds d q X r = d q X r ≡ true
 
--- 002 section 2, the transition relation q -w-> r of an automaton
+-- [Esparza], section 2: the string w leads from q to r
 pub data Path (D : Transitions) : ℕ → List ℕ → ℕ → Type 0 where
   here : {q : ℕ} → Path D q [] q
   along : {q X m r : ℕ} {w : List ℕ} → D q X m → Path D m w r → Path D q (X ∷ w) r

@@ -1,13 +1,13 @@
--- Derivation. Assumes nothing.
+-- Derivation, by productions with any body. Assumes nothing.
 use Prim.Native.Nat.{ℕ}
 use mathlib.Core.List.{List, _∷_, _++_}
-use Rattle.grammar.specs.Rule.{Rule, Rules, head, body}
+use Rattle.grammar.specs.Rule.{Productions}
 
--- 002 section 2: "If A → β is a production of P and α and γ are arbitrary strings over Σ, then αAγ ⇒ αβγ"
-pub data Step (R : Rules) : List ℕ → List ℕ → Type 0 where
-  by-rule : (α : List ℕ) (ρ : Rule) (γ : List ℕ) → R ρ → Step R (α ++ (head ρ ∷ γ)) (α ++ (body ρ ++ γ))
+-- [Esparza], section 2: a step α A γ ⇒ α β γ puts the body of a production A → β in the place of one A
+pub data Step (P : Productions) : List ℕ → List ℕ → Type 0 where
+  by-production : {A : ℕ} {β : List ℕ} (α γ : List ℕ) → P A β → Step P (α ++ (A ∷ γ)) (α ++ (β ++ γ))
 
--- 002 section 2: ⇒* "is the reflexive and transitive closure of ⇒"
-pub data Derives (R : Rules) : List ℕ → List ℕ → Type 0 where
-  none : {α : List ℕ} → Derives R α α
-  more : {α β γ : List ℕ} → Step R α β → Derives R β γ → Derives R α γ
+-- [Esparza], section 2: ⇒* is zero or more steps
+pub data Derives (P : Productions) : List ℕ → List ℕ → Type 0 where
+  none : {α : List ℕ} → Derives P α α
+  more : {α β γ : List ℕ} → Step P α β → Derives P β γ → Derives P α γ

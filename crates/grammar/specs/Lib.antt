@@ -6,7 +6,4 @@ pub mod Closure
 pub mod Useful
 pub mod Growing
 pub mod Counting
-pub mod Inductive
-pub mod PaperTheorems
-pub mod CountingTheorems
-pub mod PaperExamples
+pub mod Theorems

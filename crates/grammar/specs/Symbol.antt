@@ -1,4 +1,4 @@
--- The symbols of a grammar: variables are 0 to 31, terminals 32 to 63. Assumes nothing.
+-- The symbols of a grammar. Assumes nothing.
 use Prim.Native.Nat.{ℕ, _≤_, _<_}
 use mathlib.Core.Bool.{cond}
 use mathlib.Core.List.{List, [], _∷_}
@@ -6,7 +6,7 @@ use lib.Dec.{ltb}
 use Rattle.grammar.specs.declared.SymbolClass.{SymbolClass}
 use Rattle.grammar.specs.declared.SymbolClass.the-variants.{Variable, Terminal, Neither}
 
--- 01, The job: "Variables are 0 to 31, terminals 32 to 63"
+-- The job: variables are the numbers 0 to 31, terminals 32 to 63
 abbrev pub classOf : ℕ → SymbolClass
 classOf x = cond (ltb x 32) Variable (cond (ltb x 64) Terminal Neither)
 

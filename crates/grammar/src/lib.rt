@@ -1,5 +1,7 @@
 // The symbols of a grammar. The papers' definitions stand in specs/, the theorems about them in proofs/.
 ghost use mathlib.Core.Path.{_≡_};
+ghost use mathlib.Core.Bool.{_&&_};
+ghost use lib.Dec.{leb, ltb};
 ghost use Rattle.grammar.specs.Symbol.{classOf};
 
 pub mod theorems;
@@ -13,11 +15,47 @@ pub enum SymbolClass {
 
 // The class of a byte: variables are 0 to 31, terminals 32 to 63.
 pub fn classify(symbol: u8) -> SymbolClass
-    ensures { λ r. ⌜ r ≡ classOf symbol ⌝ }
+    ensures class { λ r. ⌜ r ≡ classOf symbol ⌝ }
 {
     match symbol {
         0..=31 => SymbolClass::Variable,
         32..=63 => SymbolClass::Terminal,
         _ => SymbolClass::Neither,
+    }
+}
+
+// Whether a byte is a variable.
+pub fn is_variable(symbol: u8) -> bool
+    ensures variable { λ r. ⌜ r ≡ ltb symbol 32 ⌝ }
+{
+    let class = classify(symbol);
+    match class {
+        SymbolClass::Variable => true,
+        SymbolClass::Terminal => false,
+        SymbolClass::Neither => false,
+    }
+}
+
+// Whether a byte is a terminal.
+pub fn is_terminal(symbol: u8) -> bool
+    ensures terminal { λ r. ⌜ r ≡ (leb 32 symbol && ltb symbol 64) ⌝ }
+{
+    let class = classify(symbol);
+    match class {
+        SymbolClass::Variable => false,
+        SymbolClass::Terminal => true,
+        SymbolClass::Neither => false,
+    }
+}
+
+// Whether a byte is a symbol: a variable or a terminal.
+pub fn is_symbol(symbol: u8) -> bool
+    ensures symbol { λ r. ⌜ r ≡ ltb symbol 64 ⌝ }
+{
+    let class = classify(symbol);
+    match class {
+        SymbolClass::Variable => true,
+        SymbolClass::Terminal => true,
+        SymbolClass::Neither => false,
     }
 }

@@ -7,8 +7,7 @@ use native.Mathlib.Nat.{not-suc-le-zero, le-of-suc-le-suc}
 use lib.ListN.{length, getD, take}
 use lib.Seq.{take-suc}
 use Rattle.job.specs.declared.JobRecord.{JobRecord}
-use Rattle.job.specs.Format.{same, has}
-use Rattle.job.specs.Order.{noRecord}
+use Rattle.job.specs.Format.{same, has, noRecord}
 
 module _ (r : JobRecord) where
   pub has-snoc : (xs : List JobRecord) (x : JobRecord) → has (xs ++ (x ∷ [])) r ≡ (has xs r || same x r)
@@ -16,11 +15,13 @@ module _ (r : JobRecord) where
   has-snoc [] x = or-false (same x r)
   has-snoc (y ∷ ys) x = rw (has-snoc ys x) (sym (or-assoc (same y r) (has ys r) (same x r)))
 
-  pub none-so-far : (rs : List JobRecord) (j : ℕ) → j < length rs → has (take j rs) r ≡ false → same (getD rs j noRecord) r ≡ false
+  pub none-so-far : (rs : List JobRecord) (j : ℕ) → j < length rs → has (take j rs) r ≡ false
+      → same (getD rs j noRecord) r ≡ false
       → has (take (suc j) rs) r ≡ false
   none-so-far rs j h e s = rw (take-suc rs j noRecord, has-snoc (take j rs) (getD rs j noRecord), e, s)
 
-  pub has-at : (rs : List JobRecord) (i j : ℕ) → j < i → j < length rs → same (getD rs j noRecord) r ≡ true → has (take i rs) r ≡ true
+  pub has-at : (rs : List JobRecord) (i j : ℕ) → j < i → j < length rs → same (getD rs j noRecord) r ≡ true
+      → has (take i rs) r ≡ true
   unfolding has
   has-at [] i j h l s = absurd (not-suc-le-zero l)
   has-at (x ∷ xs) zero j h l s = absurd (not-suc-le-zero h)

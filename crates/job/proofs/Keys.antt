@@ -1,47 +1,43 @@
--- The sort keys of an accepted job's rules hold the rules: a key's four bytes are the record's, so each key decodes to the rule of its rank.
--- Assumes nothing.
+-- The sort keys of an accepted job's rules hold the rules: a key's four bytes are the record's, so each key decodes to
+-- the rule of its rank. Assumes nothing.
 use mathlib.Core.Path.{_≡_, refl, sym, ap, ap₂, _∙_}
 use mathlib.Core.Logic.{inl, inr}
 use mathlib.Core.Bool.{Bool}
 use mathlib.Core.List.{List, [], _∷_, map, List·Memᴰ, List·Memᴰ·head, List·Memᴰ·tail}
 use Prim.Native.Nat.{ℕ, _<_, _≤_}
 use native.Mathlib.Omega.{arith}
-use lib.ListN.{length, getD, take, List·getD-map}
+use lib.ListN.{length, getD, take, length-take, length-map, List·getD-map}
 use lib.Seq.{getD-take}
 use Rattle.job.specs.declared.JobRecord.{JobRecord}
-use Rattle.job.specs.declared.Limits.{Limits}
-use Rattle.job.specs.Format.{recordsOf}
-use Rattle.job.specs.Check.{countRules, checkOf, accepted}
+use Rattle.job.specs.Format.{recordsOf, noRecord}
+use Rattle.job.specs.Accepted.{Accepted}
 use Rattle.job.specs.Job.{sortKey, sortedRules, ruleOf, jobOf, jobOfRecords}
-use Rattle.job.specs.Keys.{keyHead, keyKind, keySecond, keyThird, ruleOfKey, KeyFits}
-use Rattle.job.specs.Order.{noRecord}
+use Rattle.job.specs.Inside.Keys.{keyHead, keyKind, keySecond, keyThird, ruleOfKey, KeyFits}
 use Rattle.job.proofs.NoRepeat.{member-at}
-use Rattle.job.proofs.Accepted.{check-accepted}
 use Rattle.job.proofs.Shapes.{RuleShape, empty-shape, unit-shape, pair-shape, Bytes, rule-bytes}
-use Rattle.job.proofs.Ranks.{sorted-member, sorted-length}
-use Rattle.job.proofs.OrderFree.{sound-shaped}
+use Rattle.job.proofs.Ranks.{sorted-member}
+use Rattle.job.proofs.Insertion.{rules-counted}
+use Rattle.job.proofs.OrderFree.{fitting-shaped}
 
 -- the four bytes of a record's key are the record's
-pub record Decoded (r : JobRecord) : Type 0 where
+record Decoded (r : JobRecord) : Type 0 where
   pub head : keyHead (sortKey r) ≡ r .first
   pub kind : keyKind (sortKey r) ≡ r .kind
   pub second : keySecond (sortKey r) ≡ r .second
   pub third : keyThird (sortKey r) ≡ r .third
 
-pub decoded : (r : JobRecord) → Bytes r → Decoded r
+decoded : (r : JobRecord) → Bytes r → Decoded r
 decoded r b =
-    let k = b .kind-byte in
-    let s = b .second-byte in
-    let t = b .third-byte in
+    let (k, s, t) = b in
     record { head = omega arith; kind = omega arith; second = omega arith; third = omega arith }
 
 -- so it says the record's rule
-pub key-says : (r : JobRecord) → Bytes r → ruleOfKey (sortKey r) ≡ ruleOf r
+key-says : (r : JobRecord) → Bytes r → ruleOfKey (sortKey r) ≡ ruleOf r
 unfolding ruleOfKey ruleOf
 key-says r b = let d = decoded r b in rw (d .head, d .kind, d .second, d .third)
 
 -- and the key of a rule's record fits
-pub key-fits : (r : JobRecord) → RuleShape r → KeyFits (sortKey r)
+key-fits : (r : JobRecord) → RuleShape r → KeyFits (sortKey r)
 key-fits r s = fits s
   where
     d : Decoded r
@@ -49,43 +45,60 @@ key-fits r s = fits s
 
     fits : RuleShape r → KeyFits (sortKey r)
     fits (empty-shape k f s t) =
-        record { kind = inl (d .kind ∙ k); head = rw (d .head) f; second = rw (d .second) (omega arith); third = rw (d .third) (omega arith) }
+        record {
+          kind = inl (d .kind ∙ k);
+          head = rw (d .head) f;
+          second = rw (d .second) (omega arith);
+          third = rw (d .third) (omega arith);
+        }
     fits (unit-shape k f s t) =
-        record { kind = inr (inl (d .kind ∙ k)); head = rw (d .head) f; second = rw (d .second) s; third = rw (d .third) (omega arith) }
+        record {
+          kind = inr (inl (d .kind ∙ k));
+          head = rw (d .head) f;
+          second = rw (d .second) s;
+          third = rw (d .third) (omega arith);
+        }
     fits (pair-shape k f s t) =
-        record { kind = inr (inr (d .kind ∙ k)); head = rw (d .head) f; second = rw (d .second) (omega arith); third = rw (d .third) (omega arith) }
+        record {
+          kind = inr (inr (d .kind ∙ k));
+          head = rw (d .head) f;
+          second = rw (d .second) (omega arith);
+          third = rw (d .third) (omega arith);
+        }
 
-keys-say : (rs : List JobRecord) → ((r : JobRecord) → List·Memᴰ r rs → RuleShape r) → map ruleOfKey (map sortKey rs) ≡ map ruleOf rs
+keys-say : (rs : List JobRecord) → ((r : JobRecord) → List·Memᴰ r rs → RuleShape r)
+    → map ruleOfKey (map sortKey rs) ≡ map ruleOf rs
 keys-say [] shaped = refl
 keys-say (r ∷ rs) shaped =
-    ap₂ _∷_ (key-says r (rule-bytes (shaped r (List·Memᴰ·head refl)))) (keys-say rs (λ x m. shaped x (List·Memᴰ·tail m)))
+    ap₂ _∷_ (key-says r (rule-bytes (shaped r (List·Memᴰ·head refl))))
+    (keys-say rs (λ x m. shaped x (List·Memᴰ·tail m)))
 
-module _ (limits : Limits) (needed : Bool) (job : List ℕ) (ok : checkOf limits needed job ≡ accepted) where
+module _ {needed : Bool} {job : List ℕ} (ok : Accepted needed job) where
   shaped : (r : JobRecord) → List·Memᴰ r (sortedRules (recordsOf job)) → RuleShape r
   shaped r m =
       let (member, rule) = sorted-member (recordsOf job) m in
-      sound-shaped limits (recordsOf job) (check-accepted limits needed job ok .sound) r member rule
-
-  -- no more rules than the limit
-  pub rule-records-within : countRules (recordsOf job) ≤ limits .rules
-  rule-records-within = check-accepted limits needed job ok .sound .few-rules
+      fitting-shaped (recordsOf job) (ok .fitting) r member rule
 
   -- the first n keys are those of the rules, in the order of their ranks
   module _ (keys : List ℕ) (n : ℕ) (count : n ≡ length (sortedRules (recordsOf job)))
       (sorted : take n keys ≡ map sortKey (sortedRules (recordsOf job))) where
-    pub keys-within : n ≤ limits .rules
-    keys-within = omega (arith, sorted-length (recordsOf job), rule-records-within)
+    pub keys-within : n ≤ 256
+    keys-within = omega (arith, rules-counted (recordsOf job), ok .few-rules)
+
+    pub keys-long : n ≤ length keys
+    keys-long = omega (arith, length-take n keys, ap length sorted, length-map (sortedRules (recordsOf job)) sortKey)
 
     key-at : (k : ℕ) → k < n → getD keys k 0 ≡ sortKey (getD (sortedRules (recordsOf job)) k noRecord)
     key-at k h =
-        sym (getD-take n keys k 0 h) ∙ ap (λ (l : List ℕ). getD l k 0) sorted ∙ List·getD-map sortKey (sortedRules (recordsOf job)) k noRecord
+        sym (getD-take n keys k 0 h) ∙ ap (λ (l : List ℕ). getD l k 0) sorted
+        ∙ List·getD-map sortKey (sortedRules (recordsOf job)) k noRecord
 
     pub keys-fit : (k : ℕ) → k < n → KeyFits (getD keys k 0)
     keys-fit k h =
         let r = getD (sortedRules (recordsOf job)) k noRecord in
         rw (key-at k h) (key-fits r (shaped r (member-at noRecord (sortedRules (recordsOf job)) k (omega arith))))
 
-    pub keys-of-rules : (n ≤ limits .rules) × ((k : ℕ) → k < n → KeyFits (getD keys k 0))
+    pub keys-of-rules : (n ≤ 256) × ((k : ℕ) → k < n → KeyFits (getD keys k 0))
     keys-of-rules = (keys-within, keys-fit)
 
     pub rules-of-keys : map ruleOfKey (take n keys) ≡ jobOf job .rules

@@ -1,14 +1,13 @@
-pub mod Basics
 pub mod Members
 pub mod Permutation
 pub mod NoRepeat
+pub mod Shapes
 pub mod Sound
 pub mod Accepted
-pub mod Shapes
 pub mod SortedRules
 pub mod Ranks
-pub mod OrderFree
 pub mod States
+pub mod OrderFree
 pub mod AcceptedFacts
 pub mod Records
 pub mod Earlier
@@ -17,3 +16,6 @@ pub mod Insertion
 pub mod RefusedPlace
 pub mod Keys
 pub mod JobChecks
+pub mod Clearing
+pub mod KeyRules
+pub mod GivenTriples

@@ -7,22 +7,28 @@ use lib.Dec.{eqb}
 use borrow.Author.Tests.{eqb-true, eq-eqb}
 use Rattle.job.specs.declared.JobRecord.{JobRecord}
 use Rattle.job.specs.Format.{same, has}
-use Rattle.job.proofs.Basics.{and-left, and-right, or-split, or-left, or-right}
+use Rattle.grammar.proofs.Basics.{and-left, and-right, or-split, or-left, or-right}
 
 -- equal fields make equal records
-pub record-path : (a b : JobRecord) → a .kind ≡ b .kind → a .first ≡ b .first → a .second ≡ b .second → a .third ≡ b .third → a ≡ b
+pub record-path : (a b : JobRecord) → a .kind ≡ b .kind → a .first ≡ b .first → a .second ≡ b .second
+    → a .third ≡ b .third → a ≡ b
 record-path a b k x y z = λ i. record { kind = k i; first = x i; second = y i; third = z i }
 
 -- the test for the same four bytes is equality
 pub same-equal : (a b : JobRecord) → same a b ≡ true → a ≡ b
 same-equal a b e =
-    let p = and-left (eqb (a .kind) (b .kind) && eqb (a .first) (b .first) && eqb (a .second) (b .second)) (eqb (a .third) (b .third)) e in
+    let p =
+    and-left (eqb (a .kind) (b .kind) && eqb (a .first) (b .first) && eqb (a .second) (b .second))
+    (eqb (a .third) (b .third)) e in
     let q = and-left (eqb (a .kind) (b .kind) && eqb (a .first) (b .first)) (eqb (a .second) (b .second)) p in
     record-path a b
     (eqb-true (a .kind) (b .kind) (and-left (eqb (a .kind) (b .kind)) (eqb (a .first) (b .first)) q))
     (eqb-true (a .first) (b .first) (and-right (eqb (a .kind) (b .kind)) (eqb (a .first) (b .first)) q))
-    (eqb-true (a .second) (b .second) (and-right (eqb (a .kind) (b .kind) && eqb (a .first) (b .first)) (eqb (a .second) (b .second)) p))
-    (eqb-true (a .third) (b .third) (and-right (eqb (a .kind) (b .kind) && eqb (a .first) (b .first) && eqb (a .second) (b .second)) (eqb (a .third) (b .third)) e))
+    (eqb-true (a .second) (b .second)
+    (and-right (eqb (a .kind) (b .kind) && eqb (a .first) (b .first)) (eqb (a .second) (b .second)) p))
+    (eqb-true (a .third) (b .third)
+    (and-right (eqb (a .kind) (b .kind) && eqb (a .first) (b .first) && eqb (a .second) (b .second))
+    (eqb (a .third) (b .third)) e))
 
 pub equal-same : (a b : JobRecord) → a ≡ b → same a b ≡ true
 equal-same a b e =
@@ -38,7 +44,8 @@ pub has-member : (rs : List JobRecord) (r : JobRecord) → has rs r ≡ true →
 unfolding has
 has-member [] r e = absurd (false≢true e)
 has-member (x ∷ xs) r e =
-    ⊎-elim (λ p. List·Memᴰ·head (sym (same-equal x r p))) (λ q. List·Memᴰ·tail (has-member xs r q)) (or-split (same x r) (has xs r) e)
+    ⊎-elim (λ p. List·Memᴰ·head (sym (same-equal x r p))) (λ q. List·Memᴰ·tail (has-member xs r q))
+    (or-split (same x r) (has xs r) e)
 
 pub member-has : {rs : List JobRecord} {r : JobRecord} → List·Memᴰ r rs → has rs r ≡ true
 unfolding has

@@ -1,9 +1,10 @@
--- What a permutation leaves: membership, the counts of kinds and rules, the number of states, and the field of a kind that stands at most once.
--- Each is by induction on the permutation as data. Assumes nothing.
+-- What a permutation leaves: membership, the counts of kinds and rules, the number of states, and the field of a kind
+-- that stands at most once. Each is by induction on the permutation as data. Assumes nothing.
 use mathlib.Core.Path.{_≡_, refl, ap, _∙_}
 use mathlib.Core.Logic.{⊎-elim}
 use mathlib.Core.Bool.{Bool, true, false, cond}
-use mathlib.Core.List.{List, _∷_, List·Memᴰ, List·Memᴰ·head, List·Memᴰ·tail, List·Memᴰ·cases-cons, List·Permᴰ, List·Permᴰ·nil, List·Permᴰ·cons, List·Permᴰ·swap, List·Permᴰ·trans, Permᴰ·symm}
+use mathlib.Core.List.{List, _∷_, List·Memᴰ, List·Memᴰ·head, List·Memᴰ·tail, List·Memᴰ·cases-cons, List·Permᴰ}
+use mathlib.Core.List.{List·Permᴰ·nil, List·Permᴰ·cons, List·Permᴰ·swap, List·Permᴰ·trans, Permᴰ·symm}
 use Prim.Native.Nat.{ℕ, _+_, _≤_, max}
 use native.Mathlib.Omega.{arith}
 use lib.Dec.{eqb}
@@ -12,7 +13,7 @@ use Rattle.job.specs.declared.JobRecord.{JobRecord}
 use Rattle.job.specs.Format.{has, isRule}
 use Rattle.job.specs.Check.{countKind, countRules}
 use Rattle.job.specs.Job.{fieldOf, statesIn, statesOf}
-use Rattle.job.proofs.Basics.{same-test}
+use Rattle.grammar.proofs.Basics.{same-test}
 use Rattle.job.proofs.Members.{has-member, member-has}
 
 -- a member stays one
@@ -33,8 +34,8 @@ has-permutes r {l} {m} d =
     (λ e. member-has (member-permutes d (has-member l r e)))
     (λ e. member-has (member-permutes (Permᴰ·symm d) (has-member m r e)))
 
--- What a function of the records gives is the same for permuted lists where two neighbours may change places, on lists of a property
--- that permutations keep and tails have.
+-- What a function of the records gives is the same for permuted lists where two neighbours may change places, on lists
+-- of a property that permutations keep and tails have.
 module _ {B : Type 0} (F : List JobRecord → B) (P : List JobRecord → Type 0)
     (tail : (a : JobRecord) (l : List JobRecord) → P (a ∷ l) → P l)
     (moved : (l m : List JobRecord) → List·Permᴰ l m → P l → P m)
@@ -70,7 +71,8 @@ unfolding statesOf
 states-permute = always-permutes statesOf (λ a l m e. ap (max (statesIn a)) e) (λ a b l. omega arith)
 
 -- of two records of which at most one is of a kind, the first of that kind does not depend on the order
-change-of-one : (p q : Bool) (x y z n : ℕ) → one-if p + (one-if q + n) ≤ 1 → cond p x (cond q y z) ≡ cond q y (cond p x z)
+change-of-one : (p q : Bool) (x y z n : ℕ) → one-if p + (one-if q + n) ≤ 1
+    → cond p x (cond q y z) ≡ cond q y (cond p x z)
 change-of-one true true x y z n h = absurd (omega arith)
 change-of-one true false x y z n h = refl
 change-of-one false true x y z n h = refl
@@ -83,4 +85,5 @@ field-permutes k =
     (λ a l h. omega arith)
     (λ l m d h. omega (arith, count-kind-permutes k d))
     (λ a l m e. ap (cond (eqb (a .kind) k) (a .first)) e)
-    (λ a b l h. change-of-one (eqb (a .kind) k) (eqb (b .kind) k) (a .first) (b .first) (fieldOf k l) (countKind k l) h)
+    (λ a b l h. change-of-one (eqb (a .kind) k) (eqb (b .kind) k) (a .first) (b .first) (fieldOf k l)
+    (countKind k l) h)

@@ -1,9 +1,10 @@
--- The sorted rules are the rules among the records, as many as those, and strictly rising by the key. So as many of them sort before
--- the one at place i as there are places before i. Assumes nothing.
+-- The sorted rules are the rules among the records, strictly rising by the key. So as many of them sort before the one
+-- at place i as there are places before i. Assumes nothing.
 use mathlib.Core.Path.{_≡_, refl, sym, ap, _∙_}
 use mathlib.Core.Logic.{_⊎_, inl, inr, ⊎-elim}
 use mathlib.Core.Bool.{Bool, true, false}
-use mathlib.Core.List.{List, [], _∷_, List·Memᴰ, List·Memᴰ·head, List·Memᴰ·tail, List·Memᴰ·cases-cons, List·Memᴰ·not-nil, Memᴰ·cast}
+use mathlib.Core.List.{List, [], _∷_, List·Memᴰ, List·Memᴰ·head, List·Memᴰ·tail, List·Memᴰ·cases-cons}
+use mathlib.Core.List.{List·Memᴰ·not-nil, Memᴰ·cast}
 use Prim.Native.Nat.{ℕ, zero, suc, _<_, _≤_}
 use native.Mathlib.Nat.{le-of-lt, le-of-eq}
 use native.Mathlib.Omega.{arith}
@@ -13,14 +14,14 @@ use borrow.Author.Tests.{leb-true, leb-false, ltb-true, ltb-false, lt-ltb, le-lt
 use Rattle.grammar.specs.Counting.{count}
 use Rattle.job.specs.declared.JobRecord.{JobRecord}
 use Rattle.job.specs.Format.{isRule}
-use Rattle.job.specs.Check.{countRules}
 use Rattle.job.specs.Job.{sortKey, insert, sortedRules}
-use Rattle.job.proofs.Basics.{cases}
-use Rattle.job.proofs.NoRepeat.{NoRepeat, member-at}
+use Rattle.grammar.proofs.Basics.{cases}
+use Rattle.grammar.specs.Counting.{NoRepeat}
+use Rattle.job.proofs.NoRepeat.{member-at}
 use Rattle.job.proofs.Shapes.{rule-bytes, key-apart}
 use Rattle.job.proofs.SortedRules.{Shaped}
 
--- what an insert adds to the members and to the length
+-- what an insert adds to the members
 insert-cases : (r x : JobRecord) (l : List JobRecord) → List·Memᴰ x (insert r l) → (x ≡ r) ⊎ List·Memᴰ x l
 unfolding insert
 insert-cases r x [] m = List·Memᴰ·cases-cons m
@@ -33,26 +34,9 @@ insert-cases r x (y ∷ ys) m =
     (λ n. ⊎-elim (λ e. inl e) (λ k. inr (List·Memᴰ·tail k)) (insert-cases r x ys n))
     (List·Memᴰ·cases-cons (rw t at m)))
 
-insert-member : (r x : JobRecord) (l : List JobRecord) → (x ≡ r) ⊎ List·Memᴰ x l → List·Memᴰ x (insert r l)
-unfolding insert
-insert-member r x [] s = ⊎-elim (λ e. List·Memᴰ·head e) (λ n. absurd (List·Memᴰ·not-nil n)) s
-insert-member r x (y ∷ ys) s =
-    cases (leb (sortKey r) (sortKey y))
-    (λ t. rw t (⊎-elim (λ e. List·Memᴰ·head e) (λ n. List·Memᴰ·tail n) s))
-    (λ t.
-    rw t
-    (⊎-elim
-    (λ e. List·Memᴰ·tail (insert-member r x ys (inl e)))
-    (λ n. ⊎-elim (λ e. List·Memᴰ·head e) (λ k. List·Memᴰ·tail (insert-member r x ys (inr k))) (List·Memᴰ·cases-cons n))
-    s))
-
-insert-length : (r : JobRecord) (l : List JobRecord) → length (insert r l) ≡ suc (length l)
-unfolding insert
-insert-length r [] = refl
-insert-length r (x ∷ xs) = cases (leb (sortKey r) (sortKey x)) (λ t. rw t) (λ t. rw t (ap suc (insert-length r xs)))
-
 -- the sorted rules are the rules among the records
-pub sorted-member : (rs : List JobRecord) {x : JobRecord} → List·Memᴰ x (sortedRules rs) → List·Memᴰ x rs × (isRule x ≡ true)
+pub sorted-member : (rs : List JobRecord) {x : JobRecord} → List·Memᴰ x (sortedRules rs)
+    → List·Memᴰ x rs × (isRule x ≡ true)
 unfolding sortedRules
 sorted-member [] m = absurd (List·Memᴰ·not-nil m)
 sorted-member (r ∷ rs) {x} m =
@@ -62,35 +46,21 @@ sorted-member (r ∷ rs) {x} m =
     (λ t. ⊎-elim (λ e. (List·Memᴰ·head e, ap isRule e ∙ t)) later (insert-cases r x (sortedRules rs) (rw t at m)))
     (λ t. later (rw t at m))
 
-pub member-sorted : {rs : List JobRecord} {x : JobRecord} → List·Memᴰ x rs → isRule x ≡ true → List·Memᴰ x (sortedRules rs)
-unfolding sortedRules
-member-sorted {x = x} (List·Memᴰ·head {x = r} {xs = rs} e) t =
-    let u : isRule r ≡ true = ap isRule (sym e) ∙ t in
-    rw u (insert-member r x (sortedRules rs) (inl e))
-member-sorted {x = x} (List·Memᴰ·tail {x = r} {xs = rs} m) t =
-    cases (isRule r) (λ u. rw u (insert-member r x (sortedRules rs) (inr (member-sorted m t)))) (λ u. rw u (member-sorted m t))
-
-pub sorted-length : (rs : List JobRecord) → length (sortedRules rs) ≡ countRules rs
-unfolding sortedRules countRules
-sorted-length [] = refl
-sorted-length (r ∷ rs) =
-    cases (isRule r)
-    (λ t. rw t (insert-length r (sortedRules rs) ∙ omega (arith, sorted-length rs)))
-    (λ t. rw t (omega (arith, sorted-length rs)))
-
 -- each sorts before all that come after it
 unfoldable pub Rising : List JobRecord → Type 0
 Rising [] = Unit {0}
 Rising (x ∷ xs) = ((y : JobRecord) → List·Memᴰ y xs → sortKey x < sortKey y) × Rising xs
 
-insert-rising : (r : JobRecord) (l : List JobRecord) → ((y : JobRecord) → List·Memᴰ y l → sortKey y ≡ sortKey r → ⊥) → Rising l
+insert-rising : (r : JobRecord) (l : List JobRecord) → ((y : JobRecord) → List·Memᴰ y l → sortKey y ≡ sortKey r → ⊥)
+    → Rising l
     → Rising (insert r l)
 unfolding insert Rising
 insert-rising r [] other h = (λ y m. absurd (List·Memᴰ·not-nil m), tt)
 insert-rising r (x ∷ xs) other h =
     cases (leb (sortKey r) (sortKey x))
     (λ t.
-    let rx : sortKey r < sortKey x = omega (arith, leb-true (sortKey r) (sortKey x) t, other x (List·Memᴰ·head refl)) in
+    let rx : sortKey r < sortKey x =
+    omega (arith, leb-true (sortKey r) (sortKey x) t, other x (List·Memᴰ·head refl)) in
     rw t (
       λ y m.
           ⊎-elim (λ e. rw e rx) (λ n. omega (arith, h .0 y n)) (List·Memᴰ·cases-cons m),
@@ -114,19 +84,15 @@ sorted-rising (r ∷ rs) s d =
     (insert-rising r (sortedRules rs)
     (λ y m e.
     let (n, u) = sorted-member rs m in
-    let p : y ≡ r = key-apart y r (rule-bytes (s y (List·Memᴰ·tail n) u)) (rule-bytes (s r (List·Memᴰ·head refl) t)) e in
+    let p : y ≡ r =
+    key-apart y r (rule-bytes (s y (List·Memᴰ·tail n) u)) (rule-bytes (s r (List·Memᴰ·head refl) t)) e in
     d .0 (Memᴰ·cast (sym p) n))
     rest))
     (λ t. rw t rest)
 
--- none stands twice in a rising list
-pub rising-distinct : (l : List JobRecord) → Rising l → NoRepeat l
-unfolding Rising NoRepeat
-rising-distinct [] h = tt
-rising-distinct (x ∷ xs) h = (λ m. absurd (omega (arith, h .0 x m)), rising-distinct xs (h .1))
-
 -- an earlier place has the smaller key
-pub rising-places : (d : JobRecord) (l : List JobRecord) → Rising l → (i j : ℕ) → i < j → j < length l → sortKey (getD l i d) < sortKey (getD l j d)
+pub rising-places : (d : JobRecord) (l : List JobRecord) → Rising l → (i j : ℕ) → i < j → j < length l
+    → sortKey (getD l i d) < sortKey (getD l j d)
 unfolding Rising
 rising-places d [] h i j p q = absurd (omega arith)
 rising-places d (x ∷ xs) h zero zero p q = absurd (omega arith)
@@ -135,7 +101,8 @@ rising-places d (x ∷ xs) h (suc i) zero p q = absurd (omega arith)
 rising-places d (x ∷ xs) h (suc i) (suc j) p q = rising-places d xs (h .1) i j (omega arith) (omega arith)
 
 -- a test that passes below i and not from i on counts i
-count-front : (t : ℕ → Bool) (i n : ℕ) → i ≤ n → ((k : ℕ) → k < i → t k ≡ true) → ((k : ℕ) → i ≤ k → k < n → t k ≡ false) → count t n ≡ i
+count-front : (t : ℕ → Bool) (i n : ℕ) → i ≤ n → ((k : ℕ) → k < i → t k ≡ true)
+    → ((k : ℕ) → i ≤ k → k < n → t k ≡ false) → count t n ≡ i
 unfolding count
 count-front t i zero h below above = omega arith
 count-front t i (suc n) h below above =

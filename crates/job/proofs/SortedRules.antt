@@ -1,5 +1,5 @@
--- The sorted rules do not depend on the order of the records: two records that the key tells apart can be inserted in either order.
--- Assumes nothing.
+-- The sorted rules do not depend on the order of the records: two records that the key tells apart can be inserted in
+-- either order. Assumes nothing.
 use mathlib.Core.Path.{_≡_, refl, sym, ap, _∙_}
 use mathlib.Core.Bool.{Bool, true, false, cond}
 use mathlib.Core.List.{List, [], _∷_, List·Memᴰ, List·Memᴰ·head, List·Memᴰ·tail, List·Permᴰ, Permᴰ·symm}
@@ -10,7 +10,7 @@ use borrow.Author.Tests.{leb-true, leb-false, le-leb, lt-leb}
 use Rattle.job.specs.declared.JobRecord.{JobRecord}
 use Rattle.job.specs.Format.{isRule}
 use Rattle.job.specs.Job.{sortKey, insert, sortedRules}
-use Rattle.job.proofs.Basics.{cases}
+use Rattle.grammar.proofs.Basics.{cases}
 use Rattle.job.proofs.Permutation.{member-permutes, permutes}
 use Rattle.job.proofs.Shapes.{RuleShape, rule-bytes, key-apart}
 
@@ -28,7 +28,8 @@ unfolding insert
 goes-behind r x xs h = rw (lt-leb (sortKey r) (sortKey x) h)
 
 -- two inserts change places: that of the smaller key and that of the larger
-below-commutes : (a b : JobRecord) (l : List JobRecord) → sortKey a < sortKey b → insert a (insert b l) ≡ insert b (insert a l)
+below-commutes : (a b : JobRecord) (l : List JobRecord) → sortKey a < sortKey b
+    → insert a (insert b l) ≡ insert b (insert a l)
 unfolding insert
 below-commutes a b [] h = goes-before a b [] (omega arith) ∙ sym (goes-behind b a [] h)
 below-commutes a b (x ∷ xs) h =
@@ -36,33 +37,40 @@ below-commutes a b (x ∷ xs) h =
     (λ t.
     let bx : sortKey b ≤ sortKey x = leb-true (sortKey b) (sortKey x) t in
     ap (insert a) (goes-before b x xs bx) ∙ goes-before a b (x ∷ xs) (omega arith)
-    ∙ sym (ap (insert b) (goes-before a x xs (omega arith)) ∙ goes-behind b a (x ∷ xs) h ∙ ap (λ l. a ∷ l) (goes-before b x xs bx)))
+    ∙ sym (ap (insert b) (goes-before a x xs (omega arith)) ∙ goes-behind b a (x ∷ xs) h
+    ∙ ap (λ l. a ∷ l) (goes-before b x xs bx)))
     (λ t.
     let xb : sortKey x < sortKey b = leb-false (sortKey b) (sortKey x) t in
     cases (leb (sortKey a) (sortKey x))
     (λ u.
     let ax : sortKey a ≤ sortKey x = leb-true (sortKey a) (sortKey x) u in
     ap (insert a) (goes-behind b x xs xb) ∙ goes-before a x (insert b xs) ax
-    ∙ sym (ap (insert b) (goes-before a x xs ax) ∙ goes-behind b a (x ∷ xs) h ∙ ap (λ l. a ∷ l) (goes-behind b x xs xb)))
+    ∙ sym (ap (insert b) (goes-before a x xs ax) ∙ goes-behind b a (x ∷ xs) h
+    ∙ ap (λ l. a ∷ l) (goes-behind b x xs xb)))
     (λ u.
     let xa : sortKey x < sortKey a = leb-false (sortKey a) (sortKey x) u in
-    ap (insert a) (goes-behind b x xs xb) ∙ goes-behind a x (insert b xs) xa ∙ ap (λ l. x ∷ l) (below-commutes a b xs h)
+    ap (insert a) (goes-behind b x xs xb) ∙ goes-behind a x (insert b xs) xa
+    ∙ ap (λ l. x ∷ l) (below-commutes a b xs h)
     ∙ sym (ap (insert b) (goes-behind a x xs xa) ∙ goes-behind b x (insert a xs) xb)))
 
-pub insert-commutes : (a b : JobRecord) (l : List JobRecord) → (sortKey a ≡ sortKey b → a ≡ b) → insert a (insert b l) ≡ insert b (insert a l)
+pub insert-commutes : (a b : JobRecord) (l : List JobRecord) → (sortKey a ≡ sortKey b → a ≡ b)
+    → insert a (insert b l) ≡ insert b (insert a l)
 insert-commutes a b l apart =
     cases (leb (sortKey a) (sortKey b))
     (λ t.
     cases (leb (sortKey b) (sortKey a))
     (λ u.
-    let e : sortKey a ≡ sortKey b = omega (arith, leb-true (sortKey a) (sortKey b) t, leb-true (sortKey b) (sortKey a) u) in
+    let e : sortKey a ≡ sortKey b =
+    omega (arith, leb-true (sortKey a) (sortKey b) t, leb-true (sortKey b) (sortKey a) u) in
     λ i. insert (apart e i) (insert (sym (apart e) i) l))
     (λ u. below-commutes a b l (leb-false (sortKey b) (sortKey a) u)))
     (λ t. sym (below-commutes b a l (leb-false (sortKey a) (sortKey b) t)))
 
 -- the rules of two records, put in in either order
-both-commute : (a b : JobRecord) (p q : Bool) (l : List JobRecord) → (p ≡ true → q ≡ true → sortKey a ≡ sortKey b → a ≡ b)
-    → cond p (insert a (cond q (insert b l) l)) (cond q (insert b l) l) ≡ cond q (insert b (cond p (insert a l) l)) (cond p (insert a l) l)
+both-commute : (a b : JobRecord) (p q : Bool) (l : List JobRecord)
+    → (p ≡ true → q ≡ true → sortKey a ≡ sortKey b → a ≡ b)
+    → cond p (insert a (cond q (insert b l) l)) (cond q (insert b l) l)
+    ≡ cond q (insert b (cond p (insert a l) l)) (cond p (insert a l) l)
 both-commute a b true true l apart = insert-commutes a b l (apart refl refl)
 both-commute a b true false l apart = refl
 both-commute a b false true l apart = refl
@@ -77,4 +85,5 @@ sorted-permutes =
     (λ a l m e. ap (λ (s : List JobRecord). cond (isRule a) (insert a s) s) e)
     (λ a b l s.
     both-commute a b (isRule a) (isRule b) (sortedRules l)
-    (λ p q. key-apart a b (rule-bytes (s a (List·Memᴰ·head refl) p)) (rule-bytes (s b (List·Memᴰ·tail (List·Memᴰ·head refl)) q))))
+    (λ p q. key-apart a b (rule-bytes (s a (List·Memᴰ·head refl) p))
+    (rule-bytes (s b (List·Memᴰ·tail (List·Memᴰ·head refl)) q))))

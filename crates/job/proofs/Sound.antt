@@ -1,19 +1,21 @@
 -- What records that are not refused are, free of their order. Assumes nothing.
 use mathlib.Core.Path.{_≡_}
 use mathlib.Core.List.{List, [], _∷_, _++_, List·Memᴰ, List·Permᴰ, Permᴰ·symm, Memᴰ·append-left}
-use Prim.Native.Nat.{ℕ, _≤_}
+use Prim.Native.Nat.{ℕ, _<_, _≤_}
 use native.Mathlib.Omega.{arith}
+use Rattle.grammar.specs.Counting.{NoRepeat}
 use Rattle.job.specs.declared.JobRecord.{JobRecord}
 use Rattle.job.specs.declared.Limits.{Limits}
-use Rattle.job.specs.Format.{byteI, byteS}
+use Rattle.job.specs.Format.{rowOf, badField, byteI, byteS}
 use Rattle.job.specs.Check.{countKind, countRules}
-use Rattle.job.specs.Walk.{formFault}
 use Rattle.job.proofs.Permutation.{member-permutes, count-kind-permutes, count-rules-permutes}
-use Rattle.job.proofs.NoRepeat.{NoRepeat, no-repeat-permutes, no-repeat-front}
+use Rattle.job.proofs.NoRepeat.{no-repeat-permutes, no-repeat-front}
 
--- each record is of a known kind and its fields fit, none stands twice, at most one S and one I, and no more rules than the limit
+-- each record is of a known kind and its fields fit, none stands twice, at most one S and one I, no more rules than
+-- the limit
 pub record Sound (limits : Limits) (rs : List JobRecord) : Type 0 where
-  pub formed : (r : JobRecord) → List·Memᴰ r rs → formFault limits r ≡ 0
+  pub known : (r : JobRecord) → List·Memᴰ r rs → rowOf (r .kind) < 7
+  pub fitting : (r : JobRecord) → List·Memᴰ r rs → badField r ≡ 0
   pub distinct : NoRepeat rs
   pub one-start : countKind byteS rs ≤ 1
   pub one-initial : countKind byteI rs ≤ 1
@@ -22,7 +24,8 @@ pub record Sound (limits : Limits) (rs : List JobRecord) : Type 0 where
 pub sound-permutes : (limits : Limits) {l m : List JobRecord} → List·Permᴰ l m → Sound limits l → Sound limits m
 sound-permutes limits d s =
     record {
-      formed = λ r n. s .formed r (member-permutes (Permᴰ·symm d) n);
+      known = λ r n. s .known r (member-permutes (Permᴰ·symm d) n);
+      fitting = λ r n. s .fitting r (member-permutes (Permᴰ·symm d) n);
       distinct = no-repeat-permutes d (s .distinct);
       one-start = omega (arith, count-kind-permutes byteS d);
       one-initial = omega (arith, count-kind-permutes byteI d);
@@ -43,7 +46,8 @@ count-rules-front (r ∷ rs) m = omega (arith, count-rules-front rs m)
 pub sound-front : (limits : Limits) (l m : List JobRecord) → Sound limits (l ++ m) → Sound limits l
 sound-front limits l m s =
     record {
-      formed = λ r n. s .formed r (Memᴰ·append-left m n);
+      known = λ r n. s .known r (Memᴰ·append-left m n);
+      fitting = λ r n. s .fitting r (Memᴰ·append-left m n);
       distinct = no-repeat-front l m (s .distinct);
       one-start = omega (arith, count-kind-front byteS l m);
       one-initial = omega (arith, count-kind-front byteI l m);

@@ -1,5 +1,5 @@
--- The number of states is the least number above each state that a record names: a maximum over the records of a maximum over each.
--- Assumes nothing.
+-- The number of states is the least number above each state that a record names: a maximum over the records of a
+-- maximum over each. Assumes nothing.
 use mathlib.Core.Path.{_≡_, refl, ap}
 use mathlib.Core.Logic.{_⊎_, inl, inr, ⊎-elim}
 use mathlib.Core.Bool.{_||_}
@@ -11,8 +11,8 @@ use borrow.Author.Tests.{eqb-true}
 use Rattle.job.specs.declared.JobRecord.{JobRecord}
 use Rattle.job.specs.Format.{byteT, byteI, byteF}
 use Rattle.job.specs.Job.{statesIn, statesOf}
-use Rattle.job.specs.Order.{NamesState, StateCount}
-use Rattle.job.proofs.Basics.{cases, or-split}
+use Rattle.job.specs.Theorems.StateCount.{NamesState, StateCount}
+use Rattle.grammar.proofs.Basics.{cases, or-split}
 
 -- a state that a record names is below the number of that record
 named-below : (r : JobRecord) (q : ℕ) → NamesState r q → q < statesIn r
@@ -43,7 +43,8 @@ unfolding statesOf
 named-below-all {r = r} q (List·Memᴰ·head e) n = omega (arith, named-below r q n, ap statesIn e)
 named-below-all q (List·Memᴰ·tail m) n = omega (arith, named-below-all q m n)
 
-pub states-least : (rs : List JobRecord) (s : ℕ) → ((r : JobRecord) (q : ℕ) → List·Memᴰ r rs → NamesState r q → q < s) → statesOf rs ≤ s
+pub states-least : (rs : List JobRecord) (s : ℕ) → ((r : JobRecord) (q : ℕ) → List·Memᴰ r rs → NamesState r q → q < s)
+    → statesOf rs ≤ s
 unfolding statesOf
 states-least [] s above = omega arith
 states-least (r ∷ rs) s above =

@@ -15,22 +15,25 @@ use Rattle.job.specs.declared.JobRecord.{JobRecord}
 use Rattle.job.specs.declared.Limits.{Limits}
 use Rattle.job.specs.declared.Checked.{Checked}
 use Rattle.job.specs.declared.Tally.{Tally}
-use Rattle.job.specs.Format.{rowOf, fieldsFit, has, isRule, byteI, byteS}
-use Rattle.job.specs.Check.{refused, countKind, countRules, fault, firstFault, missing, orElse}
-use Rattle.job.specs.Order.{noRecord}
-use Rattle.job.specs.Walk.{formFault, orderFault, tallyOf, counted, missingBy}
+use Rattle.job.specs.Format.{rowOf, badField, has, isRule, byteI, byteS, noRecord}
+use Rattle.job.specs.Check.{refused, recordPlace, countKind, countRules, fault, firstFault, missing, orElse}
+use Rattle.job.specs.Inside.Walk.{formFault, orderFault, tallyOf, counted, missingBy}
 
 -- the number that refuses a record, by the parts that the code computes
-form-first : (a b : Bool) (n : ℕ) → cond a 3 (cond (not b) 4 n) ≡ cond (eqb (cond a 3 (cond (not b) 4 0)) 0) n (cond a 3 (cond (not b) 4 0))
+form-first : (a b : Bool) (n : ℕ)
+    → cond a 3 (cond (not b) 4 n)
+    ≡ cond (eqb (cond a 3 (cond (not b) 4 0)) 0) n (cond a 3 (cond (not b) 4 0))
 form-first true b n = refl
 form-first false true n = refl
 form-first false false n = refl
 
 fault-parts : (limits : Limits) (seen : List JobRecord) (r : JobRecord)
     → fault limits seen r
-    ≡ cond (eqb (formFault limits r) 0) (cond (has seen r) 5 (orderFault limits (tallyOf seen) r)) (formFault limits r)
+    ≡ cond (eqb (formFault r) 0) (cond (has seen r) 5 (orderFault limits (tallyOf seen) r)) (formFault r)
 unfolding fault formFault orderFault tallyOf
-fault-parts limits seen r = form-first (eqb (rowOf (r .kind)) 7) (fieldsFit limits r) (cond (has seen r) 5 (orderFault limits (tallyOf seen) r))
+fault-parts limits seen r =
+    form-first (eqb (rowOf (r .kind)) 7) (eqb (badField r) 0)
+    (cond (has seen r) 5 (orderFault limits (tallyOf seen) r))
 
 one-if-within : (b : Bool) → one-if b ≤ 1
 one-if-within true = omega arith
@@ -47,11 +50,13 @@ module _ (count : List JobRecord → ℕ) (test : JobRecord → Bool) (none : co
   count-within [] = omega (arith, none)
   count-within (x ∷ xs) = omega (arith, more x xs, one-if-within (test x), count-within xs)
 
-kind-snoc : (k : ℕ) (seen : List JobRecord) (r : JobRecord) → countKind k (seen ++ (r ∷ [])) ≡ countKind k seen + one-if (eqb (r .kind) k)
+kind-snoc : (k : ℕ) (seen : List JobRecord) (r : JobRecord)
+    → countKind k (seen ++ (r ∷ [])) ≡ countKind k seen + one-if (eqb (r .kind) k)
 unfolding countKind
 kind-snoc k = count-snoc (countKind k) (λ r. eqb (r .kind) k) refl (λ r rs. refl)
 
-rules-snoc : (seen : List JobRecord) (r : JobRecord) → countRules (seen ++ (r ∷ [])) ≡ countRules seen + one-if (isRule r)
+rules-snoc : (seen : List JobRecord) (r : JobRecord)
+    → countRules (seen ++ (r ∷ [])) ≡ countRules seen + one-if (isRule r)
 unfolding countRules
 rules-snoc = count-snoc countRules isRule refl (λ r rs. refl)
 
@@ -76,7 +81,7 @@ module _ (limits : Limits) (rs : List JobRecord) (i : ℕ) (h : i < length rs) w
 
   -- record i is refused
   pub refuses : (n : ℕ) → fault limits (take i rs) (getD rs i noRecord) ≡ n → (n ≡ 0 → ⊥)
-      → firstFault limits (take i rs) (drop i rs) ≡ refused n i
+      → firstFault limits (take i rs) (drop i rs) ≡ refused n (recordPlace n i (getD rs i noRecord))
   unfolding firstFault
   refuses n e z = rw (drop-cons rs i noRecord, e, ne-eqb n 0 z, length-take-le i rs (le-of-lt h))
 
@@ -89,43 +94,59 @@ pub record Walked (limits : Limits) (rs : List JobRecord) (i : ℕ) (seen : Tall
   pub tally : seen ≡ tallyOf (take i rs)
   pub rest : firstFault limits [] rs ≡ firstFault limits (take i rs) (drop i rs)
 
-pub walked-none : (limits : Limits) (rs : List JobRecord) → Walked limits rs 0 (record { rules = 0; starts = 0; initials = 0 })
+pub walked-none : (limits : Limits) (rs : List JobRecord)
+    → Walked limits rs 0 (record { rules = 0; starts = 0; initials = 0 })
 unfolding tallyOf countKind countRules
 walked-none limits rs = record { tally = refl; rest = refl }
 
 -- at most as many are counted as records were passed
-pub tally-within : (limits : Limits) (rs : List JobRecord) (i : ℕ) (seen : Tally) → Walked limits rs i seen → i ≤ length rs
+pub tally-within : (limits : Limits) (rs : List JobRecord) (i : ℕ) (seen : Tally) → Walked limits rs i seen
+    → i ≤ length rs
     → (seen .rules ≤ i) × (seen .starts ≤ i) × (seen .initials ≤ i)
 unfolding tallyOf
 tally-within limits rs i seen w h =
-    rw (w .tally) (omega (arith, kind-within byteS (take i rs), kind-within byteI (take i rs), rules-within (take i rs), length-take-le i rs h))
+    rw (w .tally) (omega (
+      arith,
+      kind-within byteS (take i rs),
+      kind-within byteI (take i rs),
+      rules-within (take i rs),
+      length-take-le i rs h,
+    ))
 
 -- and once record i is read and its form is looked at
-pub record Read (limits : Limits) (rs : List JobRecord) (i : ℕ) (seen : Tally) (r : JobRecord) (form : ℕ) : Type 0 where
+pub record Read (limits : Limits) (rs : List JobRecord) (i : ℕ) (seen : Tally) (r : JobRecord)
+    (form : ℕ) : Type 0 where
   pub walked : Walked limits rs i seen
   pub below : i < length rs
   pub here : r ≡ getD rs i noRecord
-  pub formed : form ≡ formFault limits r
+  pub formed : form ≡ formFault r
 
-module _ {limits : Limits} {rs : List JobRecord} {i : ℕ} {seen : Tally} {r : JobRecord} {form : ℕ} (a : Read limits rs i seen r form) where
-  fault-here : fault limits (take i rs) (getD rs i noRecord) ≡ cond (eqb form 0) (cond (has (take i rs) r) 5 (orderFault limits seen r)) form
+module _ {limits : Limits} {rs : List JobRecord} {i : ℕ} {seen : Tally} {r : JobRecord} {form : ℕ}
+    (a : Read limits rs i seen r form) where
+  fault-here : fault limits (take i rs) (getD rs i noRecord)
+      ≡ cond (eqb form 0) (cond (has (take i rs) r) 5 (orderFault limits seen r)) form
   fault-here = rw (← a .here, a .walked .tally, a .formed) (fault-parts limits (take i rs) r)
 
   refused-here : (needed : Bool) (n : ℕ) → fault limits (take i rs) (getD rs i noRecord) ≡ n → (n ≡ 0 → ⊥)
-      → refused n i ≡ answerOf limits needed rs
-  refused-here needed n e z = rw (a .walked .rest, refuses limits rs i (a .below) n e z, ne-eqb n 0 z)
+      → refused n (recordPlace n i r) ≡ answerOf limits needed rs
+  refused-here needed n e z = rw (a .here, a .walked .rest, refuses limits rs i (a .below) n e z, ne-eqb n 0 z)
 
-  pub by-form : (needed : Bool) → (form ≡ 0 → ⊥) → refused form i ≡ answerOf limits needed rs
-  by-form needed z = refused-here needed form (fault-here ∙ rw (ne-eqb form 0 z)) z
+  pub by-form : (needed : Bool) {c : Checked} → (form ≡ 0 → ⊥) → c ≡ refused form (recordPlace form i r)
+      → c ≡ answerOf limits needed rs
+  by-form needed z e = e ∙ refused-here needed form (fault-here ∙ rw (ne-eqb form 0 z)) z
 
-  pub by-repeat : (needed : Bool) → form ≡ 0 → has (take i rs) r ≡ true → refused 5 i ≡ answerOf limits needed rs
-  by-repeat needed z s = refused-here needed 5 (fault-here ∙ rw (z, s)) (λ q. omega arith)
+  pub by-repeat : (needed : Bool) {c : Checked} → form ≡ 0 → has (take i rs) r ≡ true
+      → c ≡ refused 5 (recordPlace 5 i r)
+      → c ≡ answerOf limits needed rs
+  by-repeat needed z s e = e ∙ refused-here needed 5 (fault-here ∙ rw (z, s)) (λ q. omega arith)
 
-  pub by-order : (needed : Bool) {order : ℕ} → form ≡ 0 → has (take i rs) r ≡ false → order ≡ orderFault limits seen r → (order ≡ 0 → ⊥)
-      → refused order i ≡ answerOf limits needed rs
-  by-order needed {order} z s o y = refused-here needed order (fault-here ∙ rw (z, s, ← o)) y
+  pub by-order : (needed : Bool) {order : ℕ} {c : Checked} → form ≡ 0 → has (take i rs) r ≡ false
+      → order ≡ orderFault limits seen r → (order ≡ 0 → ⊥) → c ≡ refused order (recordPlace order i r)
+      → c ≡ answerOf limits needed rs
+  by-order needed {order} z s o y e = e ∙ refused-here needed order (fault-here ∙ rw (z, s, ← o)) y
 
-  pub walked-on : {order : ℕ} {t : Tally} → form ≡ 0 → has (take i rs) r ≡ false → order ≡ orderFault limits seen r → order ≡ 0
+  pub walked-on : {order : ℕ} {t : Tally} → form ≡ 0 → has (take i rs) r ≡ false → order ≡ orderFault limits seen r
+      → order ≡ 0
       → t ≡ counted seen r → Walked limits rs (i + 1) t
   walked-on z s o y q =
       rw add-one
@@ -139,7 +160,8 @@ all-walked : (limits : Limits) (needed : Bool) (rs : List JobRecord) (seen : Tal
 unfolding missingBy missing firstFault tallyOf
 all-walked limits needed rs seen w = rw (w .rest, w .tally, take-length, drop-length)
 
-pub walked-all : {limits : Limits} {rs : List JobRecord} {i : ℕ} {seen : Tally} → Walked limits rs i seen → (needed : Bool) (count : ℕ)
+pub walked-all : {limits : Limits} {rs : List JobRecord} {i : ℕ} {seen : Tally} → Walked limits rs i seen
+    → (needed : Bool) (count : ℕ)
     → count ≡ length rs → i ≤ count → count ≤ i → missingBy needed seen count ≡ answerOf limits needed rs
 walked-all {limits} {rs} {i} {seen} w needed count all p q =
     let e : i ≡ length rs = omega arith in

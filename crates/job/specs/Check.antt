@@ -1,6 +1,6 @@
--- The checks of a job: 01, Refused calls, rows 2 to 9. Assumes nothing.
+-- Refused calls: short buffers, 10, and the checks of a job's bytes, 1 to 9. Assumes nothing.
 use Prim.Native.Nat.{ℕ, _+_, _/_, _%_}
-use mathlib.Core.Bool.{Bool, true, false, cond, not, _&&_, _||_}
+use mathlib.Core.Bool.{Bool, cond, not, _&&_, _||_}
 use mathlib.Core.List.{List, [], _∷_, _++_}
 use lib.Dec.{eqb, ltb, leb}
 use lib.ListN.{length}
@@ -8,7 +8,11 @@ use Rattle.grammar.specs.Counting.{one-if}
 use Rattle.job.specs.declared.JobRecord.{JobRecord}
 use Rattle.job.specs.declared.Limits.{Limits}
 use Rattle.job.specs.declared.Checked.{Checked}
-use Rattle.job.specs.Format.{recordsOf, rowOf, fieldsFit, isRule, has, byteI, byteS}
+use Rattle.job.specs.Format.{recordsOf, rowOf, badField, isRule, has, byteI, byteS}
+
+-- The job: at most 256 rules
+abbrev pub fullLimits : Limits
+fullLimits = record { rules = 256 }
 
 -- a refusal: the number returned and the place; number 0 and place 0 where nothing is refused
 abbrev pub refused : ℕ → ℕ → Checked
@@ -16,6 +20,16 @@ refused n p = record { number = n; place = p }
 
 abbrev pub accepted : Checked
 accepted = refused 0 0
+
+-- Refused calls, 10: a lent buffer that is too short, by its place: 1 table, 2 reasons, 3 codes
+abbrev pub shortTable : List ℕ → Checked
+shortTable table = cond (ltb (length table) 65536) (refused 10 1) accepted
+
+abbrev pub shortReasons : List ℕ → Checked
+shortReasons reasons = cond (ltb (length reasons) 32768) (refused 10 2) accepted
+
+abbrev pub shortCodes : List ℕ → Checked
+shortCodes codes = cond (ltb (length codes) 64) (refused 10 3) accepted
 
 -- how many records have a kind
 unfoldable pub countKind : ℕ → List JobRecord → ℕ
@@ -27,30 +41,33 @@ unfoldable pub countRules : List JobRecord → ℕ
 countRules [] = 0
 countRules (r ∷ rs) = one-if (isRule r) + countRules rs
 
--- 01, row 6: "a second S or a second I"
+-- Refused calls, 6: an S after an S, or an I after an I
 abbrev pub isSecond : List JobRecord → JobRecord → Bool
-isSecond seen r = eqb (r .kind) byteS && ltb 0 (countKind byteS seen) || eqb (r .kind) byteI && ltb 0 (countKind byteI seen)
+isSecond seen r =
+    eqb (r .kind) byteS && ltb 0 (countKind byteS seen) || eqb (r .kind) byteI && ltb 0 (countKind byteI seen)
 
--- 01: "3 to 7 are tried in that order on each record before the next record": the number that refuses a record after those seen, 0 if none.
--- 3 unknown kind byte; 4 a field outside its class; 5 the same four bytes earlier; 6 a second S or I; 7 a rule more than the limit
+-- Refused calls: each record is tried for 3 to 7, in this order, before the next record. The number that refuses a
+-- record after those seen, 0 if none: 3 an unknown kind byte; 4 a field outside its class; 5 the same four bytes
+-- earlier; 6 a second S or I; 7 one rule more than the limit
 unfoldable pub fault : Limits → List JobRecord → JobRecord → ℕ
 fault limits seen r =
     cond (eqb (rowOf (r .kind)) 7) 3
-    (cond (not (fieldsFit limits r)) 4
-    (cond (has seen r) 5 (cond (isSecond seen r) 6 (cond (isRule r && leb (limits .rules) (countRules seen)) 7 0))))
+    (cond (not (eqb (badField r) 0)) 4
+    (cond (has seen r) 5
+    (cond (isSecond seen r) 6 (cond (isRule r && leb (limits .rules) (countRules seen)) 7 0))))
 
 -- the place of a refused record, by the refusal's number, the record's number from 0 and the record
-abbrev pub placeOf : ℕ → ℕ → JobRecord → ℕ
-placeOf number index r = index
+unfoldable pub recordPlace : ℕ → ℕ → JobRecord → ℕ
+recordPlace number index r = index
 
 -- the first record that is refused, after those seen
 unfoldable pub firstFault : Limits → List JobRecord → List JobRecord → Checked
 firstFault limits seen [] = accepted
 firstFault limits seen (r ∷ rs) =
     cond (eqb (fault limits seen r) 0) (firstFault limits (seen ++ (r ∷ [])) rs)
-    (refused (fault limits seen r) (placeOf (fault limits seen r) (length seen) r))
+    (refused (fault limits seen r) (recordPlace (fault limits seen r) (length seen) r))
 
--- 01, rows 8 and 9, on records of which none is refused: no S, and no I where one is needed
+-- Refused calls, 8 and 9, on records of which none is refused: no S, and no I where one is needed
 unfoldable pub missing : Bool → List JobRecord → Checked
 missing needed rs =
     cond (eqb (countKind byteS rs) 0) (refused 8 (length rs))
@@ -60,7 +77,7 @@ missing needed rs =
 abbrev pub orElse : Checked → Checked → Checked
 orElse c d = cond (eqb (c .number) 0) d c
 
--- 01, Refused calls: all checks of the job's bytes, in the order of the table; `needed`: whether an I is needed
+-- Refused calls: 2 comes first, then 1, then the records; `needed`: whether an I is needed
 unfoldable pub checkOf : Limits → Bool → List ℕ → Checked
 checkOf limits needed job =
     cond (ltb 16384 (length job)) (refused 2 (length job))

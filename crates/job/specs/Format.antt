@@ -1,21 +1,25 @@
--- The record format of a job: four bytes a record, the kinds, and the class of each field. Assumes nothing.
+-- The job: four bytes a record, the kinds, and the class of each field. Assumes nothing.
 use Prim.Native.Nat.{ℕ}
-use mathlib.Core.Bool.{Bool, true, false, cond, _&&_, _||_}
+use mathlib.Core.Bool.{Bool, false, cond, not, _&&_, _||_}
 use mathlib.Core.List.{List, [], _∷_}
 use lib.Dec.{eqb, ltb}
 use lib.ListN.{getD}
 use Rattle.job.specs.declared.JobRecord.{JobRecord}
-use Rattle.job.specs.declared.Limits.{Limits}
 use Rattle.job.specs.declared.FieldClass.{FieldClass}
 use Rattle.job.specs.declared.FieldClass.the-variants.{Zero, Variable, Symbol, State}
 
--- 01, The job: "Records of four bytes, the first an ASCII letter, no header". Up to three bytes past the last whole record are none.
+-- The job: a record is four bytes, the kind byte and three fields. Up to three bytes past the last whole record are
+-- none.
 unfoldable pub recordsOf : List ℕ → List JobRecord
 recordsOf [] = []
 recordsOf (k ∷ []) = []
 recordsOf (k ∷ a ∷ []) = []
 recordsOf (k ∷ a ∷ b ∷ []) = []
 recordsOf (k ∷ a ∷ b ∷ c ∷ rest) = record { kind = k; first = a; second = b; third = c } ∷ recordsOf rest
+
+-- a record without meaning, for places past the end of a list
+abbrev pub noRecord : JobRecord
+noRecord = record { kind = 0; first = 0; second = 0; third = 0 }
 
 -- the kind bytes E, U, P, T, I, F and S
 abbrev pub byteE : ℕ
@@ -44,9 +48,10 @@ abbrev pub rowOf : ℕ → ℕ
 rowOf k =
     cond (eqb k byteE) 0
     (cond (eqb k byteU) 1
-    (cond (eqb k byteP) 2 (cond (eqb k byteT) 3 (cond (eqb k byteI) 4 (cond (eqb k byteF) 5 (cond (eqb k byteS) 6 7))))))
+    (cond (eqb k byteP) 2
+    (cond (eqb k byteT) 3 (cond (eqb k byteI) 4 (cond (eqb k byteF) 5 (cond (eqb k byteS) 6 7))))))
 
--- 01, The job: "a constant table of seven kinds by three fields"
+-- The job: the class of each of the three fields, for each of the seven kinds
 abbrev pub fieldClasses : List (List FieldClass)
 fieldClasses =
     (Variable ∷ Zero ∷ Zero ∷ [])
@@ -62,27 +67,28 @@ fieldClasses =
 abbrev pub classAt : ℕ → ℕ → FieldClass
 classAt row field = getD (getD fieldClasses row []) field Zero
 
--- 01, The job: "Variables are 0 to 31, terminals 32 to 63, states 0 to 31; symbols are both"; the number of states is a limit
-abbrev pub inClass : Limits → FieldClass → ℕ → Bool
-inClass limits Zero x = eqb x 0
-inClass limits Variable x = ltb x 32
-inClass limits Symbol x = ltb x 64
-inClass limits State x = ltb x (limits .states)
+-- The job: variables are 0 to 31, terminals 32 to 63, and a symbol is either; states are 0 to 31
+abbrev pub inClass : FieldClass → ℕ → Bool
+inClass Zero x = eqb x 0
+inClass Variable x = ltb x 32
+inClass Symbol x = ltb x 64
+inClass State x = ltb x 32
 
--- each field is of its class
-unfoldable pub fieldsFit : Limits → JobRecord → Bool
-fieldsFit limits r =
-    inClass limits (classAt (rowOf (r .kind)) 0) (r .first)
-    && inClass limits (classAt (rowOf (r .kind)) 1) (r .second)
-    && inClass limits (classAt (rowOf (r .kind)) 2) (r .third)
+-- the first field, 1 to 3, that is not of its class; 0 for none
+unfoldable pub badField : JobRecord → ℕ
+badField r =
+    cond (not (inClass (classAt (rowOf (r .kind)) 0) (r .first))) 1
+    (cond (not (inClass (classAt (rowOf (r .kind)) 1) (r .second))) 2
+    (cond (not (inClass (classAt (rowOf (r .kind)) 2) (r .third))) 3 0))
 
--- 01, The job: "E, U and P are rules"
+-- The job: records of the kinds E, U and P are rules
 abbrev pub isRule : JobRecord → Bool
 isRule r = eqb (r .kind) byteE || eqb (r .kind) byteU || eqb (r .kind) byteP
 
 -- the same four bytes
 abbrev pub same : JobRecord → JobRecord → Bool
-same a b = eqb (a .kind) (b .kind) && eqb (a .first) (b .first) && eqb (a .second) (b .second) && eqb (a .third) (b .third)
+same a b =
+    eqb (a .kind) (b .kind) && eqb (a .first) (b .first) && eqb (a .second) (b .second) && eqb (a .third) (b .third)
 
 -- the record stands in the list
 unfoldable pub has : List JobRecord → JobRecord → Bool

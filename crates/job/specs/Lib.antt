@@ -1,7 +1,9 @@
 pub mod Format
 pub mod Check
+pub mod Accepted
 pub mod Job
 pub mod Show
 pub mod Order
-pub mod Walk
-pub mod Keys
+pub mod Clear
+pub mod Inside
+pub mod Theorems

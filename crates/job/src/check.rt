@@ -1,5 +1,6 @@
-// The checks of a job: refusals 1 to 9, in the order of document 01's table.
+// The checks of a job: refusals 1 to 9.
 use crate::Checked;
+use crate::JOB_BYTES;
 use crate::JobRecord;
 use crate::Limits;
 use crate::Tally;
@@ -10,17 +11,17 @@ ghost use mathlib.Core.List.{[]};
 ghost use Prim.Native.Nat.{_+_, _<_, _≤_, _%_};
 ghost use lib.ListN.{length};
 ghost use Rattle.job.specs.Format.{recordsOf};
-ghost use Rattle.job.specs.Check.{checkOf, firstFault, missing, orElse};
-ghost use Rattle.job.specs.Walk.{formFault, orderFault, counted, missingBy};
+ghost use Rattle.job.specs.Check.{checkOf, firstFault, missing, orElse, refused, recordPlace};
+ghost use Rattle.job.specs.Inside.Walk.{formFault, orderFault, counted, missingBy};
 
 // 3 or 4 where the record itself is at fault, else 0.
-pub fn form_fault(limits: Limits, r: JobRecord) -> usize
-    ensures { λ n. ⌜ n ≡ formFault limits r ⌝ }
+pub fn form_fault(r: JobRecord) -> usize
+    ensures { λ n. ⌜ n ≡ formFault r ⌝ }
 {
     if format::kind_row(r.kind) == 7 {
         return 3;
     }
-    if !format::fields_fit(limits, r) {
+    if format::bad_field(r) != 0 {
         return 4;
     }
     0
@@ -86,11 +87,22 @@ fn missing_kind(seen: Tally, needed: bool, count: usize) -> Checked
     }
 }
 
-// Refusals 3 to 9 on the records of a job of whole records. Each record is compared with all before it; at a match the search stops at
-// once, out of both walks.
+// The refusal of a record by a number.
+fn refuse(number: usize, index: usize, r: JobRecord) -> Checked
+    ensures { λ c. ⌜ c ≡ refused number (recordPlace number index r) ⌝ }
+{
+    Checked {
+        number,
+        place: index,
+    }
+}
+
+// Refusals 3 to 9 on the records of a job of whole records. Each record is compared with all before it; at a match the
+// search stops at once, out of both walks.
 pub fn check_records(job: &[u8], limits: Limits, needed: bool) -> Checked
     requires { ⌜ (length (now job) ≤ 16384) × (length (now job) % 4 ≡ 0) ⌝ }
-    ensures { λ r. ⌜ r ≡ orElse (firstFault limits [] (recordsOf (now (job .entry)))) (missing needed (recordsOf (now (job .entry)))) ⌝ }
+    ensures { λ r. ⌜ r ≡ orElse (firstFault limits [] (recordsOf (now (job .entry))))
+        (missing needed (recordsOf (now (job .entry)))) ⌝ }
 {
     let count = job.len() / 4;
     let mut seen = Tally {
@@ -101,12 +113,9 @@ pub fn check_records(job: &[u8], limits: Limits, needed: bool) -> Checked
     let mut i = 0;
     'walk: while i < count {
         let r = format::record_at(job, i);
-        let form = form_fault(limits, r);
+        let form = form_fault(r);
         if form != 0 {
-            return Checked {
-                number: form,
-                place: i,
-            };
+            return refuse(form, i, r);
         }
         let mut j = 0;
         while j < i {
@@ -117,19 +126,13 @@ pub fn check_records(job: &[u8], limits: Limits, needed: bool) -> Checked
         }
         let order = order_fault(limits, seen, r);
         if order != 0 {
-            return Checked {
-                number: order,
-                place: i,
-            };
+            return refuse(order, i, r);
         }
         seen = count_in(seen, r);
         i += 1;
     }
     if i < count {
-        return Checked {
-            number: 5,
-            place: i,
-        };
+        return refuse(5, i, format::record_at(job, i));
     }
     missing_kind(seen, needed, count)
 }
@@ -139,7 +142,7 @@ pub fn check(job: &[u8], limits: Limits, needed: bool) -> Checked
     ensures { λ r. ⌜ r ≡ checkOf limits needed (now (job .entry)) ⌝ }
 {
     let n = job.len();
-    if 16384 < n {
+    if JOB_BYTES < n {
         return Checked {
             number: 2,
             place: n,

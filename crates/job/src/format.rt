@@ -1,12 +1,10 @@
 // The record format: the table of kinds and fields, and reading a record.
 use crate::FieldClass;
 use crate::JobRecord;
-use crate::Limits;
 ghost use mathlib.Core.Path.{_≡_};
 ghost use Prim.Native.Nat.{_+_, _*_, _<_, _≤_};
 ghost use lib.ListN.{length, getD};
-ghost use Rattle.job.specs.Format.{rowOf, classAt, inClass, fieldsFit, same, isRule, recordsOf};
-ghost use Rattle.job.specs.Order.{noRecord};
+ghost use Rattle.job.specs.Format.{rowOf, classAt, inClass, badField, same, isRule, recordsOf, noRecord};
 
 // The classes of the three fields, a row for each kind: E, U, P, T, I, F, S.
 const FIELD_CLASSES: [[FieldClass; 3]; 7] = [
@@ -48,38 +46,41 @@ pub fn field_class(row: usize, field: usize) -> FieldClass
 }
 
 // Whether a byte is of a class.
-pub fn in_class(limits: Limits, class: FieldClass, value: u8) -> bool
-    ensures { λ r. ⌜ r ≡ inClass limits class value ⌝ }
+pub fn in_class(class: FieldClass, value: u8) -> bool
+    ensures { λ r. ⌜ r ≡ inClass class value ⌝ }
 {
     match class {
         FieldClass::Zero => value == 0,
-        FieldClass::Variable => value < 32,
-        FieldClass::Symbol => value < 64,
-        FieldClass::State => value < limits.states,
+        FieldClass::Variable => grammar::is_variable(value),
+        FieldClass::Symbol => grammar::is_symbol(value),
+        FieldClass::State => value < 32,
     }
 }
 
 // Whether a byte is of the class of a field in a row of the table.
-fn field_fits(limits: Limits, row: usize, field: usize, value: u8) -> bool
+fn field_fits(row: usize, field: usize, value: u8) -> bool
     requires { ⌜ (row < 7) × (field < 3) ⌝ }
-    ensures { λ ok. ⌜ ok ≡ inClass limits (classAt row field) value ⌝ }
+    ensures { λ ok. ⌜ ok ≡ inClass (classAt row field) value ⌝ }
 {
-    in_class(limits, field_class(row, field), value)
+    in_class(field_class(row, field), value)
 }
 
-// Whether each field of a record of a known kind is of its class.
-pub fn fields_fit(limits: Limits, r: JobRecord) -> bool
+// The first field, 1 to 3, of a record of a known kind that is not of its class; 0 for none.
+pub fn bad_field(r: JobRecord) -> usize
     requires { ⌜ rowOf (r .kind) < 7 ⌝ }
-    ensures { λ ok. ⌜ ok ≡ fieldsFit limits r ⌝ }
+    ensures { λ n. ⌜ n ≡ badField r ⌝ }
 {
     let row = kind_row(r.kind);
-    if !field_fits(limits, row, 0, r.first) {
-        return false;
+    if !field_fits(row, 0, r.first) {
+        return 1;
     }
-    if !field_fits(limits, row, 1, r.second) {
-        return false;
+    if !field_fits(row, 1, r.second) {
+        return 2;
     }
-    field_fits(limits, row, 2, r.third)
+    if !field_fits(row, 2, r.third) {
+        return 3;
+    }
+    0
 }
 
 // Whether a kind byte is that of a rule.

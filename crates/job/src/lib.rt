@@ -3,16 +3,43 @@ ghost use mathlib.Core.Path.{_≡_};
 ghost use Rattle.grammar.specs.Counting.{one-if};
 
 pub mod check;
+pub mod clear;
 pub mod format;
 pub mod lookup;
 pub mod rules;
 pub mod show;
 pub mod theorems;
 
+// The most bytes that a job may have.
+pub const JOB_BYTES: usize = 16384;
+
+// The most rules that a job may have.
+pub const RULES: usize = 256;
+
+// The most symbols that a form may have.
+pub const FORM_SYMBOLS: usize = 64;
+
+// The length of a lent table.
+pub const TABLE_BYTES: usize = 65536;
+
+// The length of the lent reasons.
+pub const REASON_NUMBERS: usize = 32768;
+
+// The length of the lent codes of the verdicts.
+pub const CODE_BYTES: usize = 64;
+
 // The four bytes of a record.
 pub struct JobRecord {
     pub kind: u8,
     pub first: u8,
+    pub second: u8,
+    pub third: u8,
+}
+
+// A rule as its sort key has it: the head, the kind byte and the other two fields.
+pub struct Rule {
+    pub head: u8,
+    pub kind: u8,
     pub second: u8,
     pub third: u8,
 }
@@ -25,9 +52,8 @@ pub enum FieldClass {
     State,
 }
 
-// How many states and rules a job may have.
+// How many rules a job may have.
 pub struct Limits {
-    pub states: u8,
     pub rules: usize,
 }
 
@@ -35,6 +61,12 @@ pub struct Limits {
 pub struct Checked {
     pub number: usize,
     pub place: usize,
+}
+
+// A part of a job's bytes.
+pub struct Part {
+    pub offset: usize,
+    pub length: usize,
 }
 
 // How many rules, S records and I records were seen.

@@ -1,33 +1,57 @@
 // Showing the refused record.
+use crate::Checked;
 use crate::Limits;
+use crate::Part;
+use crate::RULES;
 use crate::check;
 ghost use mathlib.Core.Path.{_≡_};
-ghost use Rattle.job.specs.Show.{fullLimits, shownOf};
+ghost use Prim.Native.Nat.{_<_, _≤_};
+ghost use Rattle.job.specs.Check.{fullLimits};
+ghost use Rattle.job.specs.Show.{partOf, shownPart, shownOf};
 
-// 32 states and 256 rules.
+// 256 rules.
 pub fn full_limits() -> Limits
     ensures { λ r. ⌜ r ≡ fullLimits ⌝ }
 {
-    Limits {
-        states: 32,
-        rules: 256,
+    Limits { rules: RULES }
+}
+
+// The part of a job that a check's answer names: the record that is refused by 3 to 7, else the empty part.
+pub fn part_of(c: Checked) -> Part
+    requires { ⌜ (3 ≤ c .number → c .number ≤ 7 → c .place < 4096) ⌝ }
+    ensures { λ p. ⌜ p ≡ partOf c ⌝ }
+{
+    if c.number < 3 {
+        return Part {
+            offset: 0,
+            length: 0,
+        };
+    }
+    if 7 < c.number {
+        return Part {
+            offset: 0,
+            length: 0,
+        };
+    }
+    Part {
+        offset: 4 * c.place,
+        length: 4,
     }
 }
 
-// The four bytes of the record that the job is refused for by 3 to 7, as a part of the job; else the empty part.
+// The part of the record that the job is refused for by 3 to 7, else the empty part.
+pub fn shown_part(job: &[u8]) -> Part
+    ensures { λ p. ⌜ p ≡ shownPart (now (job .entry)) ⌝ }
+{
+    part_of(check::check(job, full_limits(), false))
+}
+
+// The bytes of that part.
 pub fn show_refused(job: &[u8]) -> &[u8]
     ensures { λ r. ⌜ now r ≡ shownOf (now (job .entry)) ⌝ }
 {
-    let c = check::check(job, full_limits(), false);
-    let number = c.number;
-    let place = c.place;
-    if number < 3 {
-        return &job[0..0];
-    }
-    if 7 < number {
-        return &job[0..0];
-    }
-    let a = 4 * place;
-    let e = a + 4;
-    &job[a..e]
+    let part = shown_part(job);
+    let from = part.offset;
+    let end = from + part.length;
+    &job[from..end]
 }

@@ -1,5 +1,19 @@
-// What the order of the records does not change, and what ranks and the number of states mean: each theorem is carried by a function.
-ghost use Rattle.job.specs.Order.{AcceptedAlike, SameJob, RankCounts, StateCount};
+// What an accepted job is, what the order of its records does not change, and what ranks and the number of states
+// mean. Each theorem is carried by a function.
+ghost use Rattle.job.specs.Theorems.InRange.{CheckAccepts, AcceptedInRange};
+ghost use Rattle.job.specs.Theorems.OrderFree.{AcceptedAlike, SameJob};
+ghost use Rattle.job.specs.Theorems.RankCounts.{RankCounts};
+ghost use Rattle.job.specs.Theorems.StateCount.{StateCount};
+
+// The checks accept a job exactly where it is accepted by what its records are, whatever their order.
+pub fn check_accepts()
+    ensures { λ r. ⌜ CheckAccepts ⌝ }
+{}
+
+// The numbers of an accepted job are in range.
+pub fn accepted_in_range()
+    ensures { λ r. ⌜ AcceptedInRange ⌝ }
+{}
 
 // Of two jobs with the same records each is accepted if the other is.
 pub fn accepted_alike()

@@ -1,35 +1,29 @@
-// Reads a job from standard input and prints six lines: states, examined, joins, start, empty, growing; or the line 'refused N at P'.
+// Reads a job from standard input and prints six lines: states, examined, joins, start, empty, growing; or the line
+// 'refused N at P'.
 
-// The report on a job.
+// One byte more than a job may have, so that longer input is refused as too long.
+const INPUT_BYTES: usize = 16385;
+
+// The most bytes that a report's text has.
+const TEXT_BYTES: usize = 117;
+
+// Prints the report on a job.
 fn report(job: &[u8]) {
-    let mut table = [0u8; 65536];
-    let mut reasons = [0u16; 32768];
-    let started = ropeclover::operations::start(job, &mut table, &mut reasons);
-    if started.number != 0 {
-        console::refused_line(started.number, started.place);
-        return;
-    }
-    let advanced = ropeclover::operations::advance(job, &mut table, &mut reasons, 65536);
-    let form = [job::lookup::field_of(job, b'S')];
-    let asked = ropeclover::operations::ask(job, &table, &form);
-    let mut codes = [0u8; 64];
-    let verdicts = ropeclover::operations::verdicts(job, &mut table, &mut codes);
-    console::number_line(b"states", started.states as u64);
-    console::number_line(b"examined", advanced.steps);
-    console::number_line(b"joins", advanced.meetings);
-    console::answer_line(b"start", asked.accepted);
-    console::answer_line(b"empty", verdicts.empty);
-    console::answer_line(b"growing", verdicts.growing);
+    let mut table = [0u8; job::TABLE_BYTES];
+    let mut reasons = [0u16; job::REASON_NUMBERS];
+    let mut codes = [0u8; job::CODE_BYTES];
+    let report = reporting::operation::report(job, &mut table, &mut reasons, &mut codes);
+    let mut out = [0u8; TEXT_BYTES];
+    let written = text::operations::report_text(report, &mut out);
+    console::write_output(&out, written.bytes);
 }
 
 fn main() {
-    // One byte more than a job may have, so that longer input is refused as too long.
-    let mut job = [0u8; 16385];
-    let input = console::read_input(&mut job);
+    let mut buffer = [0u8; INPUT_BYTES];
+    let input = console::read_input(&mut buffer);
     if !input.ok {
         os::fail(b"standard input");
         return;
     }
-    let n = input.len;
-    report(console::part(&job, n));
+    report(console::part(&buffer, input.len));
 }

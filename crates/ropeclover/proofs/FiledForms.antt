@@ -1,5 +1,5 @@
--- Whether a form leads from a state to a final one over a list of transitions, and what that decides: by pre*, whether the form derives a
--- string of the given automaton. Assumes nothing.
+-- Whether a form leads from a state to a final one over a list of transitions, and what that decides: by pre*, whether
+-- the form derives a string of the given automaton. Assumes nothing.
 use mathlib.Core.Path.{_≡_}
 use mathlib.Core.Logic.{_↔_}
 use mathlib.Core.Bool.{Bool, true, _&&_}
@@ -11,14 +11,15 @@ use Rattle.grammar.proofs.PreStar.{path-derives, derives-path}
 use Rattle.grammar.proofs.CertificateTests.{Triple, some, some-member, member-some, has, has-member}
 use Rattle.job.specs.Job.{Job}
 use Rattle.saturation.specs.Smallest.{Smallest}
-use Rattle.ropeclover.specs.FinishedTables.{DerivesGiven}
+use Rattle.forms.specs.Acceptance.{DerivesGiven}
 
 -- the form leads from q to a final state
 unfoldable pub finishes : List Triple → (ℕ → Bool) → List ℕ → ℕ → Bool
 finishes ts final [] q = final q
 finishes ts final (X ∷ w) q = some (λ a. has ts q X (a .2) && finishes ts final w (a .2)) ts
 
-module _ (ts : List Triple) (final : ℕ → Bool) (T : Transitions) (exact : (q X r : ℕ) → (has ts q X r ≡ true) ↔ T q X r) where
+module _ (ts : List Triple) (final : ℕ → Bool) (T : Transitions)
+    (exact : (q X r : ℕ) → (has ts q X r ≡ true) ↔ T q X r) where
   finishes-path : (w : List ℕ) (q : ℕ) → finishes ts final w q ≡ true → (r : ℕ) × Path T q w r × (final r ≡ true)
   unfolding finishes
   finishes-path [] q e = (q, here, e)
@@ -38,8 +39,10 @@ module _ (ts : List Triple) (final : ℕ → Bool) (T : Transitions) (exact : (q
       (and-both (has ts q X m) (finishes ts final w m) there (path-finishes p e))
 
 -- over a list of the smallest set, from the initial state
-pub finishes-derives : (J : Job) → StatesBelow (Holds (J .given)) (J .states) → J .initial < J .states → (ts : List Triple) →
-    ((q X r : ℕ) → (has ts q X r ≡ true) ↔ Smallest J q X r) → (form : List ℕ) → (finishes ts (J .final) form (J .initial) ≡ true) ↔ DerivesGiven J form
+pub finishes-derives : (J : Job) → StatesBelow (Holds (J .given)) (J .states) → J .initial < J .states
+    → (ts : List Triple) →
+    ((q X r : ℕ) → (has ts q X r ≡ true) ↔ Smallest J q X r) → (form : List ℕ) →
+    (finishes ts (J .final) form (J .initial) ≡ true) ↔ DerivesGiven J form
 finishes-derives J below initial ts exact form = (
   λ e.
       let (r, p, f) = finishes-path ts (J .final) (Smallest J) exact form (J .initial) e in

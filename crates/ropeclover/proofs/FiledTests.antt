@@ -1,5 +1,5 @@
--- A certificate for a grammar on file, and the test that it certifies all that is said of the grammar: each fact has a test over the
--- certificate's lists, which the prover computes. Assumes nothing.
+-- A certificate for a grammar on file, and the test that it certifies all that is said of the grammar: each fact has a
+-- test over the certificate's lists, which the prover computes. Assumes nothing.
 use mathlib.Core.Bool.{Bool, true, false, not, _&&_, Bool·beq}
 use mathlib.Core.List.{List}
 use Prim.Native.Nat.{ℕ}
@@ -13,24 +13,25 @@ use Rattle.grammar.proofs.CertificateSymbols.{generates}
 use Rattle.grammar.proofs.CertificateCycle.{certifiedCycle, certifiedRank}
 use Rattle.grammar.proofs.Certificate.{closureCertified, symbolsCertified}
 use Rattle.grammar.proofs.CertificateVerdicts.{useful}
-use Rattle.job.specs.Format.{recordsOf, fieldsFit}
+use Rattle.job.specs.Format.{recordsOf, badField}
 use Rattle.job.specs.Format as format
-use Rattle.job.specs.Check.{checkOf, firstFault, fault, countKind, countRules, missing}
+use Rattle.job.specs.Check.{checkOf, fullLimits, firstFault, fault, recordPlace, countKind, countRules, missing}
 use Rattle.job.specs.Job.{Job, jobOf, jobOfRecords, sortedRules, insert, ruleOf, fieldOf, statesOf}
-use Rattle.job.specs.Show.{fullLimits}
-use Rattle.verdicts.specs.Verdicts.{isNamed, namedIn}
+use Rattle.verdicts.specs.Sets.{anyIn, anyRule}
+use Rattle.verdicts.specs.Verdicts.{isNamed}
 use Rattle.ropeclover.specs.Filed.{Fact, Filed}
-use Rattle.ropeclover.proofs.FiledGiven.{givenTriples}
+use Rattle.job.proofs.GivenTriples.{givenTriples}
 use Rattle.ropeclover.proofs.FiledForms.{finishes}
 
--- what shows whether a grammar grows: a pair rule from A to X with the symbols of a way back to A; the ranks of the symbols from 0 on, 0 for
--- those past the list; nothing, where no fact asks for it
+-- what shows whether a grammar grows: a pair rule from A to X with the symbols of a way back to A; the ranks of the
+-- symbols from 0 on, 0 for those past the list; nothing, where no fact asks for it
 pub data Growth : Type 0 where
   cycle : (A X : ℕ) (back : List ℕ) → Growth
   ranks : List ℕ → Growth
   unsaid : Growth
 
--- the transitions of the smallest set with the way in which each comes in, the variables that generate, the symbols that are reached
+-- the transitions of the smallest set with the way in which each comes in, the variables that generate, the symbols
+-- that are reached
 pub record Certificate : Type 0 where
   pub lines : List Line
   pub generating : List ℕ
@@ -60,15 +61,19 @@ abbrev pub factCertified : Bool → Job → Certificate → Fact → Bool
 factCertified needed J c (Fact.states n) = eqb (J .states) n
 factCertified needed J c (Fact.examined n) = eqb (length (c .lines)) n
 factCertified needed J c (Fact.joins n) = eqb (joins (J .rules) (triplesOf c)) n
-factCertified needed J c (Fact.variablesLead q r As) = every-below (λ A. Bool·beq (has (triplesOf c) q A r) (hasSymbol As A)) 32
-factCertified needed J c (Fact.acceptsForm form answer) = needed && Bool·beq (finishes (triplesOf c) (J .final) form (J .initial)) answer
-factCertified needed J c (Fact.isEmpty answer) = Bool·beq (not (generates (c .generating) (J .start))) answer
-factCertified needed J c (Fact.isGrowing answer) = shows (useful (c .generating) (c .reached)) (J .rules) (c .growth) answer
-factCertified needed J c (Fact.code X n) = eqb (codeBy (isNamed J X) (generates (c .generating) X) (hasSymbol (c .reached) X)) n
+factCertified needed J c (Fact.variablesLead q r As) =
+    every-below (λ A. Bool·beq (has (triplesOf c) q A r) (hasSymbol As A)) 32
+factCertified needed J c (Fact.acceptsForm form answer) =
+    needed && Bool·beq (finishes (triplesOf c) (J .final) form (J .initial)) answer
+factCertified needed J c (Fact.isEmpty answer) = Bool·beq (generates (c .generating) (J .start)) (not answer)
+factCertified needed J c (Fact.isGrowing answer) =
+    shows (useful (c .generating) (c .reached)) (J .rules) (c .growth) answer
+factCertified needed J c (Fact.code X n) =
+    eqb (codeBy (isNamed (J .rules) (J .start) X) (generates (c .generating) X) (hasSymbol (c .reached) X)) n
 
 -- the checks of the job pass
 unfoldable pub passes : Bool → List ℕ → Bool
-unfolding checkOf firstFault recordsOf fault fieldsFit format.has countKind countRules missing
+unfolding checkOf firstFault recordsOf fault recordPlace badField format.has countKind countRules missing
 passes needed job = eqb (checkOf fullLimits needed job .number) 0 && eqb (checkOf fullLimits needed job .place) 0
 
 -- the lines are the smallest set of the job
@@ -85,5 +90,6 @@ factsTest f c = every (factCertified (f .needed) (jobOf (f .job)) c) (f .facts)
 
 -- the whole test
 unfoldable pub certifies : Filed → Certificate → Bool
-unfolding passes jobOf jobOfRecords sortedRules insert ruleOf fieldOf statesOf givenTriples closureCertified symbolsCertified joins finishes certifiedCycle certifiedRank useful namedIn
+unfolding passes jobOf jobOfRecords sortedRules insert ruleOf fieldOf statesOf givenTriples
+    closureCertified symbolsCertified joins finishes certifiedCycle certifiedRank useful anyIn anyRule
 certifies f c = passes (f .needed) (f .job) && (closureTest (f .job) c && (symbolsTest (f .job) c && factsTest f c))

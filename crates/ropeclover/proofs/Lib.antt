@@ -1,14 +1,4 @@
-pub mod JobInRange
-pub mod JobChecks
-pub mod FormChecks
 pub mod CallChecks
-pub mod FirstPart
-pub mod RestKept
-pub mod ListedPlaces
-pub mod ListedDone
-pub mod FirstListing
-pub mod ExplainCases
-pub mod ExplainLaws
 pub mod Outcomes
 pub mod LentKept
 pub mod SinceStart
@@ -20,10 +10,8 @@ pub mod RunKept
 pub mod RunCounts
 pub mod TwoRunsAlike
 pub mod Finished
-pub mod FiledGiven
 pub mod FiledForms
 pub mod FiledTests
 pub mod FiledRight
 pub mod FiledCertificates
 pub mod Written
-pub mod Shown

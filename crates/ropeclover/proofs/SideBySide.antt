@@ -1,22 +1,22 @@
--- Two runs side by side, before a call: the same records, the same lengths lent, and the same first part if that is known. What a call that
--- writes nothing leaves is alike. Assumes nothing.
+-- Two runs side by side, before a call: the same records, the same lengths lent, and the same first part if that is
+-- known. What a call that writes nothing leaves is alike. Assumes nothing.
 use mathlib.Core.Path.{_≡_, refl, sym, _∙_, ap}
 use mathlib.Core.Bool.{Bool, true, false, _||_}
 use mathlib.Core.List.{List}
 use Prim.Native.Nat.{ℕ}
 use lib.ListN.{take}
-use Rattle.job.specs.Check.{checkOf, accepted}
+use Rattle.job.specs.Check.{checkOf, fullLimits}
+use Rattle.job.specs.Accepted.{Accepted}
 use Rattle.job.specs.Job.{jobOf}
 use Rattle.job.specs.Order.{SameRecords}
-use Rattle.job.specs.Show.{fullLimits}
-use Rattle.job.proofs.OrderFree.{same-job}
+use Rattle.job.specs.Theorems.InRange.{InRange}
+use Rattle.job.proofs.AcceptedFacts as facts
+use Rattle.job.proofs.JobChecks.{check-alike}
+use Rattle.job.proofs.OrderFree.{accepted-same-job}
 use Rattle.saturation.specs.Table.{Lent}
-use Rattle.saturation.specs.InRange.{InRange}
+use Rattle.saturation.proofs.Steps.FirstPart.{first}
 use Rattle.ropeclover.specs.Call.{Answer, started, advanced, asked, explained, judged}
 use Rattle.ropeclover.specs.Alike.{SameLengths, SameFirst, AnswerAlike, CallAlike, ownWritten, settles}
-use Rattle.ropeclover.proofs.JobInRange.{accepted-in-range}
-use Rattle.ropeclover.proofs.JobChecks.{check-alike}
-use Rattle.ropeclover.proofs.FirstPart.{first}
 
 -- the same first part, as an equation
 pub same-first : (m n : Lent) → first m ≡ first n → SameFirst m n
@@ -27,7 +27,7 @@ first-same m n s = λ i. record { table = s .table i; reasons = s .reasons i }
 
 pub record SideBySide (a b : List ℕ) (m n : Lent) (known : Bool) : Type 0 where
   pub records : SameRecords a b
-  pub ok : checkOf fullLimits false a ≡ accepted
+  pub ok : Accepted false a
   pub long : SameLengths m n
   pub alike : known ≡ true → SameFirst m n
 
@@ -45,13 +45,13 @@ alike-itself (judged a) = refl
 
 module _ (a b : List ℕ) (m n : Lent) (known : Bool) (runs : SideBySide a b m n known) where
   pub same-jobs : jobOf a ≡ jobOf b
-  same-jobs = same-job fullLimits a b (runs .records) (runs .ok)
+  same-jobs = accepted-same-job (runs .records) (runs .ok)
 
   pub same-checks : (needed : Bool) → checkOf fullLimits needed a ≡ checkOf fullLimits needed b
-  same-checks needed = check-alike fullLimits needed a b (runs .records) (runs .ok)
+  same-checks needed = check-alike needed (runs .records) (runs .ok)
 
   pub in-range : InRange (jobOf a)
-  in-range = accepted-in-range false a (runs .ok)
+  in-range = facts.in-range (runs .ok)
 
   -- a call that gives the same answer in both and writes nothing
   pub unwritten-alike :

@@ -11,4 +11,6 @@ append-nil [] = refl
 append-nil (x ∷ l) = ap (λ t. x ∷ t) (append-nil l)
 
 pub written : (l vs : List ℕ) → length l ≡ length vs → sets l 0 vs ≡ vs
-written l vs e = sets-eq vs l 0 (omega arith) ∙ ap (λ t. vs ++ t) (drop-of-length-le l {i = 0 + length vs} (omega arith)) ∙ append-nil vs
+written l vs e =
+    sets-eq vs l 0 (omega arith) ∙ ap (λ t. vs ++ t) (drop-of-length-le l {i = 0 + length vs} (omega arith))
+    ∙ append-nil vs

@@ -2,18 +2,20 @@
 use mathlib.Core.Path.{_≡_}
 use mathlib.Core.Logic.{_↔_}
 use Prim.Native.Nat.{ℕ, _<_}
-use mathlib.Core.Bool.{Bool, true, false}
+use mathlib.Core.Bool.{Bool, true, false, not}
 use mathlib.Core.List.{List, [], _∷_, _++_, List·Memᴰ}
+use Rattle.grammar.specs.Rule.{Among}
 use Rattle.grammar.specs.Counting.{meetings}
+use Rattle.grammar.specs.Useful.{Productive}
+use Rattle.grammar.specs.Growing.{Growing}
 use Rattle.job.specs.Format.{byteE, byteU, byteP, byteT, byteI, byteF, byteS}
-use Rattle.job.specs.Check.{checkOf, accepted}
+use Rattle.job.specs.Check.{checkOf, fullLimits, accepted}
 use Rattle.job.specs.Job.{Job, jobOf}
-use Rattle.job.specs.Show.{fullLimits}
 use Rattle.saturation.specs.Smallest.{Smallest, DecidesSmallest, SmallestCount}
-use Rattle.verdicts.specs.Verdicts.{CodeIs, Says, EmptyIs, GrowingIs}
-use Rattle.ropeclover.specs.FinishedTables.{DerivesGiven}
+use Rattle.forms.specs.Acceptance.{DerivesGiven}
+use Rattle.verdicts.specs.Meaning.{CodeIs}
 
--- what document 01 says of a grammar on file
+-- Grammars on file: what is said of a grammar
 pub data Fact : Type 0 where
   states : ℕ → Fact
   examined : ℕ → Fact
@@ -24,17 +26,23 @@ pub data Fact : Type 0 where
   isGrowing : Bool → Fact
   code : (X c : ℕ) → Fact
 
--- when it is right, by the definitions: the number of states; the number of transitions of the smallest set, which are all examined; its pair
--- meetings; which variables lead from one state to another; whether a form derives a string of the automaton; the verdicts
+-- a yes says that it holds, a no that it does not
+abbrev pub Says : Bool → Type 0 → Type 0
+Says true P = P
+Says false P = P → ⊥
+
+-- when it is right, by the definitions: the number of states; the number of transitions of the smallest set, which are
+-- all examined; its pair meetings; which variables lead from one state to another; whether a form derives a string of
+-- the automaton; the verdicts, where not empty means that the start symbol derives a terminal string
 abbrev pub Right : Job → Fact → Type 0
 Right J (states n) = J .states ≡ n
 Right J (examined n) = SmallestCount J n
 Right J (joins n) = (test : ℕ → ℕ → ℕ → Bool) → DecidesSmallest J test → meetings test 32 (J .rules) ≡ n
 Right J (variablesLead q r As) = (A : ℕ) → A < 32 → Smallest J q A r ↔ List·Memᴰ A As
 Right J (acceptsForm form answer) = Says answer (DerivesGiven J form)
-Right J (isEmpty answer) = EmptyIs J answer
-Right J (isGrowing answer) = GrowingIs J answer
-Right J (code X c) = CodeIs J X c
+Right J (isEmpty answer) = Says (not answer) (Productive (Among (J .rules)) (J .start))
+Right J (isGrowing answer) = Says answer (Growing (Among (J .rules)) (J .start))
+Right J (code X c) = CodeIs (J .rules) (J .start) X c
 
 -- a grammar on file: whether it has an automaton, the bytes of its job, and the facts
 pub record Filed : Type 0 where
@@ -49,9 +57,10 @@ AllRight J (fact ∷ facts) = Right J fact × AllRight J facts
 unfoldable pub AllFiledRight : List Filed → Type 0
 AllFiledRight [] = Unit {0}
 AllFiledRight (filed ∷ rest) =
-    (checkOf fullLimits (filed .needed) (filed .job) ≡ accepted) × AllRight (jobOf (filed .job)) (filed .facts) × AllFiledRight rest
+    (checkOf fullLimits (filed .needed) (filed .job) ≡ accepted) × AllRight (jobOf (filed .job))
+    (filed .facts) × AllFiledRight rest
 
--- 01, The report program: the job and its six lines
+-- The report program: its sample job and the six lines
 abbrev pub reportJob : Filed
 reportJob =
     record {
@@ -62,8 +71,7 @@ reportJob =
       facts = states 3 ∷ examined 11 ∷ joins 8 ∷ acceptsForm (0 ∷ []) true ∷ isEmpty false ∷ isGrowing true ∷ [];
     }
 
--- 001's grammar with A 0, B 1, C 2, D 3, S 4, T 5, X 6, a 32, b 33, and baabab as a chain of 7 states: "29 done; S and X lead from 0 to 6; no
--- variable leads from 1 to 3"
+-- the grammar of [Membership] with A 0, B 1, C 2, D 3, S 4, T 5, X 6, a 32, b 33, and baabab as a chain of 7 states
 abbrev pub chainJob : Filed
 chainJob =
     record {
@@ -77,7 +85,7 @@ chainJob =
       facts = states 7 ∷ examined 29 ∷ variablesLead 0 6 (4 ∷ 6 ∷ []) ∷ variablesLead 1 3 [] ∷ [];
     }
 
--- 003, Example 25.5 with S 0, A 1, B 2, C 3, a 32, b 33, c 34: "not growing"
+-- [Lecture 25], example 25.5, with S 0, A 1, B 2, C 3, a 32, b 33, c 34
 abbrev pub finiteJob : Filed
 finiteJob =
     record {
@@ -88,7 +96,7 @@ finiteJob =
       facts = isGrowing false ∷ [];
     }
 
--- 003, Example 25.6: "growing; C and c have code 3"
+-- [Lecture 25], example 25.6, numbered alike
 abbrev pub infiniteJob : Filed
 infiniteJob =
     record {
@@ -99,7 +107,7 @@ infiniteJob =
       facts = isGrowing true ∷ code 3 3 ∷ code 34 3 ∷ [];
     }
 
--- "S → a, X → b: X and b have code 3", with X 1
+-- S → a and, aside, X → b, with X 1
 abbrev pub asideJob : Filed
 asideJob =
     record {
@@ -108,7 +116,7 @@ asideJob =
       facts = code 1 3 ∷ code 33 3 ∷ [];
     }
 
--- "S → AB, A → a only: empty; S and B 2, A and a 3", with A 1, B 2
+-- S → A B, A → a and no rule for B, with A 1, B 2
 abbrev pub emptyJob : Filed
 emptyJob =
     record {
@@ -117,8 +125,7 @@ emptyJob =
       facts = isEmpty true ∷ code 0 2 ∷ code 2 2 ∷ code 1 3 ∷ code 32 3 ∷ [];
     }
 
--- "S → ε, state 0 initial and final: examined 1, joins 0. With S → SS added: examined 1, joins 1. Empty form on that job: accepted; without the
--- F record, not."
+-- S → ε with 0 as the initial and final state, and with S → S S besides; each also without the F record
 abbrev pub epsilonRecords : List ℕ
 epsilonRecords = byteS ∷ 0 ∷ 0 ∷ 0 ∷ byteE ∷ 0 ∷ 0 ∷ 0 ∷ byteI ∷ 0 ∷ 0 ∷ 0 ∷ []
 
@@ -150,11 +157,21 @@ doublingJob =
 abbrev pub doublingUnfinal : Filed
 doublingUnfinal = record { needed = true; job = epsilonRecords ++ doubling; facts = acceptsForm [] false ∷ [] }
 
--- 01, Grammars on file, those marked *
+-- Grammars on file: those that are proved
 abbrev pub filedGrammars : List Filed
 filedGrammars =
-    reportJob ∷ chainJob ∷ finiteJob ∷ infiniteJob ∷ asideJob ∷ emptyJob ∷ epsilonJob ∷ epsilonUnfinal ∷ doublingJob ∷ doublingUnfinal ∷ []
+    reportJob
+    ∷ chainJob
+    ∷ finiteJob
+    ∷ infiniteJob
+    ∷ asideJob
+    ∷ emptyJob
+    ∷ epsilonJob
+    ∷ epsilonUnfinal
+    ∷ doublingJob
+    ∷ doublingUnfinal
+    ∷ []
 
--- 01: "The starred grammars form one list, proved from the definitions by one claim over it."
+-- Grammars on file: one claim over the list
 unfoldable pub FiledGrammars : Type 0
 FiledGrammars = AllFiledRight filedGrammars

@@ -1,12 +1,16 @@
-// The C interface: each operation with its answer as a fixed array that is always written whole. include/ropeclover.h is its manual.
+// The C interface: each operation with its answer as a fixed array that is always written whole.
+// include/ropeclover.h is its manual.
 use crate::operations;
 ghost use mathlib.Core.Path.{_≡_};
 ghost use mathlib.Core.List.{_∷_, []};
 ghost use lib.ListN.{length};
+ghost use Rattle.job.specs.Show.{shownPart};
+ghost use Rattle.saturation.specs.Table.{lentOf};
 ghost use Rattle.saturation.specs.Operations.{startOf, advanceOf};
-ghost use Rattle.saturation.specs.Parts.{lentOf};
 ghost use Rattle.forms.specs.Operations.{askOf, explainOf};
-ghost use Rattle.ropeclover.specs.Exports.{startNumbers, advanceNumbers, askNumbers, explainNumbers, VerdictsExported, showNumbers};
+ghost use Rattle.verdicts.specs.Operation.{verdictsOf};
+ghost use Rattle.ropeclover.specs.Exports.{startNumbers, advanceNumbers, askNumbers, explainNumbers};
+ghost use Rattle.ropeclover.specs.Exports.{verdictsNumbers, showNumbers};
 
 // The numbers of an answer.
 fn write2(answer: &mut [u64], a: u64, b: u64)
@@ -48,29 +52,58 @@ fn write5(answer: &mut [u64], a: u64, b: u64, c: u64, d: u64, e: u64)
 }
 
 #[no_mangle]
-pub extern "C" fn ropeclover_start(job: &[u8], table: &mut [u8], reasons: &mut [u16], answer: &mut [u64; 3])
-    ensures answered { λ _. ⌜ now (answer .exit) ≡ startNumbers (startOf (now (job .entry)) (lentOf (now (table .entry)) (now (reasons .entry))) .answer) ⌝ }
-    ensures left { λ _. ⌜ lentOf (now (table .exit)) (now (reasons .exit)) ≡ startOf (now (job .entry)) (lentOf (now (table .entry)) (now (reasons .entry))) .lent ⌝ }
+pub extern "C" fn ropeclover_start(
+    job: &[u8],
+    table: &mut [u8],
+    reasons: &mut [u16],
+    answer: &mut [u64; 3],
+)
+    ensures answered { λ _. ⌜ now (answer .exit)
+        ≡ startNumbers (startOf (now (job .entry)) (lentOf (now (table .entry)) (now (reasons .entry))) .answer) ⌝ }
+    ensures left { λ _. ⌜ lentOf (now (table .exit)) (now (reasons .exit))
+        ≡ startOf (now (job .entry)) (lentOf (now (table .entry)) (now (reasons .entry))) .lent ⌝ }
 {
     let r = operations::start(job, table, reasons);
     write3(answer, r.number as u64, r.place as u64, r.states as u64);
 }
 
 #[no_mangle]
-pub extern "C" fn ropeclover_advance(job: &[u8], table: &mut [u8], reasons: &mut [u16], n: u64, answer: &mut [u64; 5])
-    ensures answered { λ _. ⌜ now (answer .exit) ≡ advanceNumbers (advanceOf (now (job .entry)) (lentOf (now (table .entry)) (now (reasons .entry))) n .answer) ⌝ }
-    ensures left { λ _. ⌜ lentOf (now (table .exit)) (now (reasons .exit)) ≡ advanceOf (now (job .entry)) (lentOf (now (table .entry)) (now (reasons .entry))) n .lent ⌝ }
+pub extern "C" fn ropeclover_advance(
+    job: &[u8],
+    table: &mut [u8],
+    reasons: &mut [u16],
+    n: u64,
+    answer: &mut [u64; 5],
+)
+    ensures answered { λ _. ⌜ now (answer .exit)
+        ≡ advanceNumbers
+        (advanceOf (now (job .entry)) (lentOf (now (table .entry)) (now (reasons .entry))) n .answer) ⌝ }
+    ensures left { λ _. ⌜ lentOf (now (table .exit)) (now (reasons .exit))
+        ≡ advanceOf (now (job .entry)) (lentOf (now (table .entry)) (now (reasons .entry))) n .lent ⌝ }
 {
     let r = operations::advance(job, table, reasons, n);
-    write5(answer, r.number as u64, r.place as u64, job::one_if(r.finished) as u64, r.steps, r.meetings);
+    write5(
+        answer,
+        r.number as u64,
+        r.place as u64,
+        job::one_if(r.finished) as u64,
+        r.steps,
+        r.meetings,
+    );
 }
 
 #[no_mangle]
 pub extern "C" fn ropeclover_ask(job: &[u8], table: &[u8], form: &[u8], answer: &mut [u64; 3])
-    ensures { λ _. ⌜ now (answer .exit) ≡ askNumbers (askOf (now (job .entry)) (now (table .entry)) (now (form .entry))) ⌝ }
+    ensures answered { λ _. ⌜ now (answer .exit)
+        ≡ askNumbers (askOf (now (job .entry)) (now (table .entry)) (now (form .entry))) ⌝ }
 {
     let r = operations::ask(job, table, form);
-    write3(answer, r.number as u64, r.place as u64, job::one_if(r.accepted) as u64);
+    write3(
+        answer,
+        r.number as u64,
+        r.place as u64,
+        job::one_if(r.accepted) as u64,
+    );
 }
 
 #[no_mangle]
@@ -82,34 +115,54 @@ pub extern "C" fn ropeclover_explain(
     listing: &mut [u8],
     answer: &mut [u64; 4],
 )
-    ensures answered { λ _. ⌜ now (answer .exit) ≡ explainNumbers (explainOf (now (job .entry)) (lentOf (now (table .entry)) (now (reasons .entry))) (now (form .entry)) (now (listing .entry)) .answer) ⌝ }
-    ensures left { λ _. ⌜ lentOf (now (table .exit)) (now (reasons .exit)) ≡ explainOf (now (job .entry)) (lentOf (now (table .entry)) (now (reasons .entry))) (now (form .entry)) (now (listing .entry)) .lent ⌝ }
-    ensures listed { λ _. ⌜ now (listing .exit) ≡ explainOf (now (job .entry)) (lentOf (now (table .entry)) (now (reasons .entry))) (now (form .entry)) (now (listing .entry)) .listing ⌝ }
+    ensures answered { λ _. ⌜ now (answer .exit)
+        ≡ explainNumbers (explainOf (now (job .entry)) (lentOf (now (table .entry)) (now (reasons .entry)))
+        (now (form .entry)) (now (listing .entry)) .answer) ⌝ }
+    ensures left { λ _. ⌜ lentOf (now (table .exit)) (now (reasons .exit))
+        ≡ explainOf (now (job .entry)) (lentOf (now (table .entry)) (now (reasons .entry)))
+        (now (form .entry)) (now (listing .entry)) .lent ⌝ }
+    ensures listed { λ _. ⌜ now (listing .exit)
+        ≡ explainOf (now (job .entry)) (lentOf (now (table .entry)) (now (reasons .entry)))
+        (now (form .entry)) (now (listing .entry)) .listing ⌝ }
 {
     let r = operations::explain(job, table, reasons, form, listing);
-    write4(answer, r.number as u64, r.place as u64, job::one_if(r.accepted) as u64, r.records as u64);
+    write4(
+        answer,
+        r.number as u64,
+        r.place as u64,
+        job::one_if(r.accepted) as u64,
+        r.records as u64,
+    );
 }
 
 #[no_mangle]
-pub extern "C" fn ropeclover_verdicts(job: &[u8], table: &mut [u8], codes: &mut [u8], answer: &mut [u64; 4])
-    ensures { λ _. ⌜ VerdictsExported (now (job .entry)) (now (table .entry)) (now (codes .entry)) (now (answer .exit)) (now (table .exit)) (now (codes .exit)) ⌝ }
+pub extern "C" fn ropeclover_verdicts(
+    job: &[u8],
+    table: &mut [u8],
+    codes: &mut [u8],
+    answer: &mut [u64; 4],
+)
+    ensures answered { λ _. ⌜ now (answer .exit)
+        ≡ verdictsNumbers (verdictsOf (now (job .entry)) (now (table .entry)) (now (codes .entry)) .answer) ⌝ }
+    ensures left { λ _. ⌜ now (table .exit)
+        ≡ verdictsOf (now (job .entry)) (now (table .entry)) (now (codes .entry)) .table ⌝ }
+    ensures coded { λ _. ⌜ now (codes .exit)
+        ≡ verdictsOf (now (job .entry)) (now (table .entry)) (now (codes .entry)) .codes ⌝ }
 {
     let r = operations::verdicts(job, table, codes);
-    write4(answer, r.number as u64, r.place as u64, job::one_if(r.empty) as u64, job::one_if(r.growing) as u64);
+    write4(
+        answer,
+        r.number as u64,
+        r.place as u64,
+        job::one_if(r.empty) as u64,
+        job::one_if(r.growing) as u64,
+    );
 }
 
 #[no_mangle]
 pub extern "C" fn ropeclover_show(job: &[u8], answer: &mut [u64; 2])
-    ensures { λ _. ⌜ now (answer .exit) ≡ showNumbers (now (job .entry)) ⌝ }
+    ensures answered { λ _. ⌜ now (answer .exit) ≡ showNumbers (shownPart (now (job .entry))) ⌝ }
 {
-    let c = job::check::check(job, job::show::full_limits(), false);
-    if c.number < 3 {
-        write2(answer, 0, 0);
-        return;
-    }
-    if 7 < c.number {
-        write2(answer, 0, 0);
-        return;
-    }
-    write2(answer, (4 * c.place) as u64, 4);
+    let part = job::show::shown_part(job);
+    write2(answer, part.offset as u64, part.length as u64);
 }

@@ -1,4 +1,5 @@
-// The six operations. No call needs anything of its input: whatever is wrong with it is refused, with a number and a place.
+// The six operations. No call needs anything of its input: whatever is wrong with it is refused, with a number and a
+// place.
 use forms::Asked;
 use forms::Explained;
 use saturation::Advanced;
@@ -7,49 +8,61 @@ use verdicts::Verdicts;
 ghost use mathlib.Core.Path.{_≡_};
 ghost use Rattle.job.specs.Show.{shownOf};
 ghost use Rattle.saturation.specs.Operations.{startOf, startLeaves, advanceOf, advanceLeaves};
-ghost use Rattle.saturation.specs.Parts.{lentOf};
+ghost use Rattle.saturation.specs.Table.{lentOf};
 ghost use Rattle.forms.specs.Operations.{askOf, explainOf, explainLeaves};
-ghost use Rattle.verdicts.specs.Operation.{VerdictsOutcome};
+ghost use Rattle.verdicts.specs.Operation.{verdictsOf, verdictsLeave};
 
 // Writes the table and the reasons that the job starts from, and answers its number of states.
 pub fn start(job: &[u8], table: &mut [u8], reasons: &mut [u16]) -> Started
-    ensures { λ r. ⌜ startLeaves r (lentOf (now (table .exit)) (now (reasons .exit))) ≡ startOf (now (job .entry)) (lentOf (now (table .entry)) (now (reasons .entry))) ⌝ }
+    ensures left { λ r. ⌜ startLeaves r (lentOf (now (table .exit)) (now (reasons .exit)))
+        ≡ startOf (now (job .entry)) (lentOf (now (table .entry)) (now (reasons .entry))) ⌝ }
 {
     saturation::operations::start(job, table, reasons)
 }
 
-// Makes n steps, fewer if finished, on any table whatever. The order of examination (lowest place first) and the reason kept (the smallest
-// offered) are the definition's; what holds of them stands in crate saturation's specs/Theorems.
+// Makes n steps, fewer if finished, on any table whatever. The order of examination (lowest place first) and the
+// reason kept (the smallest offered) are the definition's; what holds of them stands in crate saturation's
+// specs/Theorems.
 pub fn advance(job: &[u8], table: &mut [u8], reasons: &mut [u16], n: u64) -> Advanced
-    ensures { λ r. ⌜ advanceLeaves r (lentOf (now (table .exit)) (now (reasons .exit))) ≡ advanceOf (now (job .entry)) (lentOf (now (table .entry)) (now (reasons .entry))) n ⌝ }
+    ensures left { λ r. ⌜ advanceLeaves r (lentOf (now (table .exit)) (now (reasons .exit)))
+        ≡ advanceOf (now (job .entry)) (lentOf (now (table .entry)) (now (reasons .entry))) n ⌝ }
 {
     saturation::operations::advance(job, table, reasons, n)
 }
 
 // Whether a form is accepted on a lent table, which is only read.
 pub fn ask(job: &[u8], table: &[u8], form: &[u8]) -> Asked
-    ensures { λ r. ⌜ r ≡ askOf (now (job .entry)) (now (table .entry)) (now (form .entry)) ⌝ }
+    ensures answered { λ r. ⌜ r ≡ askOf (now (job .entry)) (now (table .entry)) (now (form .entry)) ⌝ }
 {
     forms::ask::ask(job, table, form)
 }
 
 // Starts, runs to the end, and lists why the form is accepted, along the accepting state sequence that comes first.
-pub fn explain(job: &[u8], table: &mut [u8], reasons: &mut [u16], form: &[u8], listing: &mut [u8]) -> Explained
-    ensures { λ r. ⌜ explainLeaves r (lentOf (now (table .exit)) (now (reasons .exit))) (now (listing .exit)) ≡ explainOf (now (job .entry)) (lentOf (now (table .entry)) (now (reasons .entry))) (now (form .entry)) (now (listing .entry)) ⌝ }
+pub fn explain(
+    job: &[u8],
+    table: &mut [u8],
+    reasons: &mut [u16],
+    form: &[u8],
+    listing: &mut [u8],
+) -> Explained
+    ensures left { λ r. ⌜ explainLeaves r (lentOf (now (table .exit)) (now (reasons .exit))) (now (listing .exit))
+        ≡ explainOf (now (job .entry)) (lentOf (now (table .entry)) (now (reasons .entry)))
+        (now (form .entry)) (now (listing .entry)) ⌝ }
 {
     forms::explain::explain(job, table, reasons, form, listing)
 }
 
 // Codes of the 64 symbols, and whether the language is empty and whether it grows. The table is scratch, left 0.
 pub fn verdicts(job: &[u8], table: &mut [u8], codes: &mut [u8]) -> Verdicts
-    ensures { λ r. ⌜ VerdictsOutcome (now (job .entry)) (now (table .entry)) (now (codes .entry)) r (now (table .exit)) (now (codes .exit)) ⌝ }
+    ensures left { λ r. ⌜ verdictsLeave r (now (table .exit)) (now (codes .exit))
+        ≡ verdictsOf (now (job .entry)) (now (table .entry)) (now (codes .entry)) ⌝ }
 {
     verdicts::operation::verdicts(job, table, codes)
 }
 
 // The four bytes of the record that the job is refused for by 3 to 7, as a part of the job; else the empty part.
 pub fn show_refused(job: &[u8]) -> &[u8]
-    ensures { λ r. ⌜ now r ≡ shownOf (now (job .entry)) ⌝ }
+    ensures shown { λ r. ⌜ now r ≡ shownOf (now (job .entry)) ⌝ }
 {
     job::show::show_refused(job)
 }

@@ -1,5 +1,5 @@
--- The checks of start and advance: where they refuse nothing, what is lent is long enough and the job is accepted. By the tests in turn.
--- Assumes nothing.
+-- The checks of start and advance: where they refuse nothing, what is lent is long enough and the job is accepted. By
+-- the tests in turn. Assumes nothing.
 use mathlib.Core.Path.{_≡_, refl, sym, _∙_, ap}
 use mathlib.Core.Bool.{Bool, true, false, cond}
 use mathlib.Core.List.{List}
@@ -9,9 +9,9 @@ use lib.Dec.{ltb}
 use lib.ListN.{length}
 use borrow.Author.Tests.{ltb-false, lt-ltb, le-ltb}
 use Rattle.job.specs.declared.Checked.{Checked}
-use Rattle.job.specs.Check.{checkOf, refused, accepted, orElse}
-use Rattle.job.specs.Show.{fullLimits}
-use Rattle.job.proofs.Accepted.{accepted-by-number}
+use Rattle.job.specs.Check.{checkOf, fullLimits, refused, accepted, orElse}
+use Rattle.job.specs.Accepted.{Accepted}
+use Rattle.job.proofs.Accepted.{number-accepted}
 use Rattle.saturation.specs.Table.{Lent, tableSize, reasonsSize}
 use Rattle.saturation.specs.Operations.{machineCheck}
 
@@ -19,10 +19,11 @@ use Rattle.saturation.specs.Operations.{machineCheck}
 pub record Passed (job : List ℕ) (m : Lent) : Type 0 where
   pub long : tableSize ≤ length (m .table)
   pub long-reasons : reasonsSize ≤ length (m .reasons)
-  pub ok : checkOf fullLimits true job ≡ accepted
+  pub ok : Accepted true job
 
 each-passed :
-    (a b : Bool) (d : Checked) → orElse (orElse (cond a (refused 10 1) accepted) (cond b (refused 10 2) accepted)) d .number ≡ 0 →
+    (a b : Bool) (d : Checked) →
+    orElse (orElse (cond a (refused 10 1) accepted) (cond b (refused 10 2) accepted)) d .number ≡ 0 →
     (a ≡ false) × (b ≡ false) × (d .number ≡ 0)
 each-passed true b d e = absurd (omega arith)
 each-passed false true d e = absurd (omega arith)
@@ -33,12 +34,13 @@ module _ (job : List ℕ) (m : Lent) where
   unfolding machineCheck
   machine-passed c checked e =
       let (t, rs, d) =
-      each-passed (ltb (length (m .table)) tableSize) (ltb (length (m .reasons)) reasonsSize) (checkOf fullLimits true job)
+      each-passed (ltb (length (m .table)) tableSize) (ltb (length (m .reasons)) reasonsSize)
+      (checkOf fullLimits true job)
       (sym (ap (λ (x : Checked). x .number) checked) ∙ e) in
       record {
         long = ltb-false (length (m .table)) tableSize t;
         long-reasons = ltb-false (length (m .reasons)) reasonsSize rs;
-        ok = accepted-by-number fullLimits true job d;
+        ok = number-accepted true job d;
       }
 
   -- the three ways out of the checks
@@ -46,10 +48,12 @@ module _ (job : List ℕ) (m : Lent) where
   unfolding machineCheck
   short-table h = rw (lt-ltb (length (m .table)) tableSize h)
 
-  pub short-reasons : tableSize ≤ length (m .table) → length (m .reasons) < reasonsSize → refused 10 2 ≡ machineCheck job m
+  pub short-reasons : tableSize ≤ length (m .table) → length (m .reasons) < reasonsSize
+      → refused 10 2 ≡ machineCheck job m
   unfolding machineCheck
   short-reasons l h = rw (le-ltb (length (m .table)) tableSize l, lt-ltb (length (m .reasons)) reasonsSize h)
 
-  pub long-enough : tableSize ≤ length (m .table) → reasonsSize ≤ length (m .reasons) → checkOf fullLimits true job ≡ machineCheck job m
+  pub long-enough : tableSize ≤ length (m .table) → reasonsSize ≤ length (m .reasons)
+      → checkOf fullLimits true job ≡ machineCheck job m
   unfolding machineCheck
   long-enough l h = rw (le-ltb (length (m .table)) tableSize l, le-ltb (length (m .reasons)) reasonsSize h)

@@ -3,10 +3,6 @@ pub mod Start
 pub mod Step
 pub mod Advance
 pub mod Operations
-pub mod InRange
 pub mod Smallest
-pub mod Reasons
 pub mod Theorems
-pub mod Parts
-pub mod Offering
-pub mod StartParts
+pub mod Inside

@@ -1,28 +1,20 @@
--- The whole outcome of start and advance, for every input: the answer and what is lent afterwards. Assumes nothing.
+-- Table and machine: the whole outcome of start and advance, for every input: the answer and what is lent afterwards.
+-- Assumes nothing.
 use Prim.Native.Nat.{ℕ}
 use mathlib.Core.Bool.{true, false, cond}
 use mathlib.Core.List.{List}
-use lib.Dec.{eqb, ltb}
-use lib.ListN.{length}
+use lib.Dec.{eqb}
 use Rattle.job.specs.declared.Checked.{Checked}
-use Rattle.job.specs.Check.{checkOf, refused, accepted, orElse}
+use Rattle.job.specs.Check.{checkOf, fullLimits, shortTable, shortReasons, orElse}
 use Rattle.job.specs.Job.{jobOf}
-use Rattle.job.specs.Show.{fullLimits}
 use Rattle.saturation.specs.declared.Started.{Started}
 use Rattle.saturation.specs.declared.Advanced.{Advanced}
-use Rattle.saturation.specs.Table.{Lent, tableSize, reasonsSize}
+use Rattle.saturation.specs.Table.{Lent, statuses}
 use Rattle.saturation.specs.Start.{started}
 use Rattle.saturation.specs.Step.{isFinished}
 use Rattle.saturation.specs.Advance.{steps, stepsMade, meetingsMade}
 
--- 01, Refused calls, row 10: "first short buffer: 1 table, 2 reasons"
-abbrev pub shortTable : List ℕ → Checked
-shortTable t = cond (ltb (length t) tableSize) (refused 10 1) accepted
-
-abbrev pub shortReasons : List ℕ → Checked
-shortReasons rs = cond (ltb (length rs) reasonsSize) (refused 10 2) accepted
-
--- the checks of start and advance: row 10, then the job's, an I needed
+-- the checks of start and advance: the buffers, then the job's, with an initial state
 unfoldable pub machineCheck : List ℕ → Lent → Checked
 machineCheck job m = orElse (orElse (shortTable (m .table)) (shortReasons (m .reasons))) (checkOf fullLimits true job)
 
@@ -34,12 +26,15 @@ pub record StartOutcome : Type 0 where
 abbrev pub startLeaves : Started → Lent → StartOutcome
 startLeaves a m = record { answer = a; lent = m }
 
--- 01, Table and machine: start "returns s". "With a refusal counts are 0"; a refusal changes nothing lent.
+-- start answers the number of states; a refused start answers 0 and changes nothing lent
 unfoldable pub startOf : List ℕ → Lent → StartOutcome
 startOf job m =
     cond (eqb (machineCheck job m .number) 0)
     (record { answer = record { number = 0; place = 0; states = jobOf job .states }; lent = started (jobOf job) m })
-    (record { answer = record { number = machineCheck job m .number; place = machineCheck job m .place; states = 0 }; lent = m })
+    (record {
+      answer = record { number = machineCheck job m .number; place = machineCheck job m .place; states = 0 };
+      lent = m;
+    })
 
 -- what advance leaves
 pub record AdvanceOutcome : Type 0 where
@@ -49,7 +44,7 @@ pub record AdvanceOutcome : Type 0 where
 abbrev pub advanceLeaves : Advanced → Lent → AdvanceOutcome
 advanceLeaves a m = record { answer = a; lent = m }
 
--- 01: advance "returns whether no pending byte is left, and two counts: steps made, and the rise in pair meetings of the done transitions"
+-- advance answers whether the table is finished, the steps made, and the rise in pair meetings of the done transitions
 unfoldable pub advanceOf : List ℕ → Lent → ℕ → AdvanceOutcome
 advanceOf job m n =
     cond (eqb (machineCheck job m .number) 0)
@@ -58,11 +53,11 @@ advanceOf job m n =
           record {
             number = 0;
             place = 0;
-            finished = isFinished (steps (jobOf job) n m .table);
-            steps = stepsMade (jobOf job) n m;
-            meetings = meetingsMade (jobOf job) n m;
+            finished = isFinished (statuses (steps (jobOf job .rules) n m .table));
+            steps = stepsMade (jobOf job .rules) n m;
+            meetings = meetingsMade (jobOf job .rules) n m;
           };
-      lent = steps (jobOf job) n m;
+      lent = steps (jobOf job .rules) n m;
     })
     (record {
       answer =

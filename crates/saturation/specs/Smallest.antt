@@ -1,18 +1,16 @@
--- The set of transitions that saturation makes, and the counts that the theorems speak of. Assumes nothing.
+-- The set of transitions that saturation makes, and its number. Assumes nothing.
 use mathlib.Core.Path.{_≡_}
 use mathlib.Core.Logic.{_↔_}
 use mathlib.Core.Bool.{Bool, true}
-use mathlib.Core.List.{List}
 use Prim.Native.Nat.{ℕ, _<_}
-use lib.ListN.{getD}
 use Rattle.grammar.specs.Rule.{Among}
 use Rattle.grammar.specs.Automaton.{Transitions, Holds}
 use Rattle.grammar.specs.Closure.{Closure}
-use Rattle.grammar.specs.Counting.{count, HasCount}
+use Rattle.grammar.specs.Counting.{HasCount}
 use Rattle.job.specs.Job.{Job}
-use Rattle.saturation.specs.Table.{tableSize, fromState, symbolAt, toState, isDone}
+use Rattle.saturation.specs.Table.{tableSize, fromState, symbolAt, toState}
 
--- 00, demand 2: "the smallest set of transitions that contains the given ones and is closed under the rules"
+-- The demands, 2: the smallest set of transitions that has the given ones and is closed under the rules
 abbrev pub Smallest : Job → Transitions
 Smallest J = Closure (Among (J .rules)) (Holds (J .given)) (J .states)
 
@@ -20,10 +18,6 @@ Smallest J = Closure (Among (J .rules)) (Holds (J .given)) (J .states)
 abbrev pub DecidesSmallest : Job → (ℕ → ℕ → ℕ → Bool) → Type 0
 DecidesSmallest J test = (q X r : ℕ) → q < 32 → X < 64 → r < 32 → (test q X r ≡ true) ↔ Smallest J q X r
 
--- 00, demand 3: k is "the number of transitions in that smallest set"; each transition has one place
+-- The demands, 3: the smallest set has k transitions; each has one place
 abbrev pub SmallestCount : Job → ℕ → Type 0
 SmallestCount J k = HasCount (λ p. Smallest J (fromState p) (symbolAt p) (toState p)) tableSize k
-
--- the number of done bytes among the first 65,536
-unfoldable pub doneCount : List ℕ → ℕ
-doneCount t = count (λ p. isDone (getD t p 0)) tableSize

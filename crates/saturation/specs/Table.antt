@@ -1,23 +1,36 @@
--- The table and the reasons: places, and what a byte says. Assumes nothing.
+-- Table and machine: the places of transitions and of reasons, what a table says of a place, and how bytes say it.
+-- Assumes nothing.
+use mathlib.Core.Path.{_≡_}
 use Prim.Native.Nat.{ℕ, suc, _+_, _*_, _/_, _%_}
-use mathlib.Core.Bool.{Bool, cond, _||_}
+use mathlib.Core.Bool.{Bool, true, false, cond, _||_}
 use mathlib.Core.List.{List, [], _∷_}
 use lib.Dec.{eqb, leb}
-use lib.ListN.{getD}
+use lib.ListN.{length, getD, drop}
 
 -- what is lent: a table of bytes and reasons of 16 bits each
 pub record Lent : Type 0 where
   pub table : List ℕ
   pub reasons : List ℕ
 
--- 01, Table and machine: "Only the first 65,536 bytes and 32,768 numbers are ever written"
+-- the two lists as one
+abbrev pub lentOf : List ℕ → List ℕ → Lent
+lentOf t rs = record { table = t; reasons = rs }
+
+-- the bytes and the numbers that the machine reads and writes; what is lent beyond them stays as it is
 abbrev pub tableSize : ℕ
 tableSize = 65536
 
 abbrev pub reasonsSize : ℕ
 reasonsSize = 32768
 
--- 01: "Table byte of (q, X, r): at q·2048 + X·32 + r"; the three parts of a place
+-- the same lengths, and what is lent past those sizes as it was
+pub record KeepsRest (before after : Lent) : Type 0 where
+  pub long-table : length (after .table) ≡ length (before .table)
+  pub long-reasons : length (after .reasons) ≡ length (before .reasons)
+  pub rest-table : drop tableSize (after .table) ≡ drop tableSize (before .table)
+  pub rest-reasons : drop reasonsSize (after .reasons) ≡ drop reasonsSize (before .reasons)
+
+-- the place of the transition (q, X, r) in a table, and the three parts of a place
 abbrev pub place : ℕ → ℕ → ℕ → ℕ
 place q X r = q * 2048 + X * 32 + r
 
@@ -30,7 +43,7 @@ symbolAt p = p / 32 % 64
 abbrev pub toState : ℕ → ℕ
 toState p = p % 32
 
--- 01: "Reason of a variable's transition (q, A, r): at q·1024 + A·32 + r"; the state and the variable of such a place
+-- the place of the reason of a variable's transition (q, A, r); the state and the variable of such a place
 abbrev pub reasonPlace : ℕ → ℕ → ℕ → ℕ
 reasonPlace q A r = q * 1024 + A * 32 + r
 
@@ -40,21 +53,65 @@ reasonState k = k / 1024
 abbrev pub reasonVariable : ℕ → ℕ
 reasonVariable k = k / 32 % 32
 
--- 01: "0 absent, 1 pending, 2 done, 3 done and listed. Every operation reads 4 to 255 as absent."
-abbrev pub isAbsent : ℕ → Bool
-isAbsent b = eqb b 0 || leb 4 b
+-- a transition is absent, pending or done
+pub data Status : Type 0 where
+  absent : Status
+  pending : Status
+  done : Status
 
-abbrev pub isPending : ℕ → Bool
-isPending b = eqb b 1
+abbrev pub saysAbsent : Status → Bool
+saysAbsent Status.absent = true
+saysAbsent Status.pending = false
+saysAbsent Status.done = false
 
-abbrev pub isDone : ℕ → Bool
-isDone b = eqb b 2 || eqb b 3
+abbrev pub saysPending : Status → Bool
+saysPending Status.absent = false
+saysPending Status.pending = true
+saysPending Status.done = false
+
+abbrev pub saysDone : Status → Bool
+saysDone Status.absent = false
+saysDone Status.pending = false
+saysDone Status.done = true
+
+-- what a table says of each place, however it is written
+abbrev pub Statuses : Type 0
+Statuses = ℕ → Status
+
+abbrev pub isAbsentAt : Statuses → ℕ → Bool
+isAbsentAt v p = saysAbsent (v p)
+
+abbrev pub isPendingAt : Statuses → ℕ → Bool
+isPendingAt v p = saysPending (v p)
+
+abbrev pub isDoneAt : Statuses → ℕ → Bool
+isDoneAt v p = saysDone (v p)
 
 -- the transition is done
-unfoldable pub doneAt : List ℕ → ℕ → ℕ → ℕ → Bool
-doneAt t q X r = isDone (getD t (place q X r) 0)
+unfoldable pub doneIn : Statuses → ℕ → ℕ → ℕ → Bool
+doneIn v q X r = isDoneAt v (place q X r)
 
--- 01: a reason is "0 none, 65,535 given, else 1 + 32 × rank + middle state"
+-- a byte of 1 is pending, 2 is done, 3 is done and listed; every other is absent
+abbrev pub byteStatus : ℕ → Status
+byteStatus b = cond (eqb b 1) Status.pending (cond (eqb b 2 || eqb b 3) Status.done Status.absent)
+
+abbrev pub isAbsent : ℕ → Bool
+isAbsent b = saysAbsent (byteStatus b)
+
+abbrev pub isPending : ℕ → Bool
+isPending b = saysPending (byteStatus b)
+
+abbrev pub isDone : ℕ → Bool
+isDone b = saysDone (byteStatus b)
+
+-- what a table of bytes says
+unfoldable pub statuses : List ℕ → Statuses
+statuses t p = byteStatus (getD t p 0)
+
+abbrev pub doneAt : List ℕ → ℕ → ℕ → ℕ → Bool
+doneAt t = doneIn (statuses t)
+
+-- a reason is 0 for none, 65,535 for a given transition, else made of a rule's rank and a middle state
 abbrev pub givenReason : ℕ
 givenReason = 65535
 

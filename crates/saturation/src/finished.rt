@@ -1,17 +1,20 @@
 // Whether a table is finished.
+use crate::table;
+use job::TABLE_BYTES;
 ghost use mathlib.Core.Path.{_≡_};
 ghost use Prim.Native.Nat.{_≤_};
 ghost use lib.ListN.{length};
+ghost use Rattle.saturation.specs.Table.{statuses};
 ghost use Rattle.saturation.specs.Step.{isFinished};
 
 // Whether no pending byte is left.
 pub fn is_finished(table: &[u8]) -> bool
-    requires { ⌜ 65536 ≤ length (now table) ⌝ }
-    ensures { λ r. ⌜ r ≡ isFinished (now (table .entry)) ⌝ }
+    requires long { ⌜ 65536 ≤ length (now table) ⌝ }
+    ensures finished { λ r. ⌜ r ≡ isFinished (statuses (now (table .entry))) ⌝ }
 {
     let mut i = 0;
-    while i < 65536 {
-        if table[i] == 1 {
+    while i < TABLE_BYTES {
+        if table::is_pending(table[i]) {
             return false;
         }
         i += 1;

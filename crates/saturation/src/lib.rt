@@ -7,7 +7,17 @@ pub mod operations;
 pub mod pending;
 pub mod run;
 pub mod step;
+pub mod table;
 pub mod theorems;
+
+// How many places of a table a state's transitions take: 64 rows of 32.
+pub const STATE_PLACES: usize = 2048;
+
+// How many reasons a state's transitions take: those of the 32 variables' rows.
+pub const STATE_REASONS: usize = 1024;
+
+// A place past every table, by a power of two that no sum of a place's parts reaches.
+pub const NO_PLACE: usize = 131072;
 
 // What start answers: a refusal's number and place, 0 and 0 where nothing is refused, and the number of states.
 pub struct Started {
@@ -16,7 +26,8 @@ pub struct Started {
     pub states: usize,
 }
 
-// What advance answers: a refusal's number and place, whether no pending byte is left, the steps made and the rise in pair meetings.
+// What advance answers: a refusal's number and place, whether no pending byte is left, the steps made and the rise in
+// pair meetings.
 pub struct Advanced {
     pub number: usize,
     pub place: usize,
@@ -29,4 +40,17 @@ pub struct Advanced {
 pub struct Counts {
     pub steps: u64,
     pub meetings: u64,
+}
+
+// A walk over 32 partners of a taken transition: the place of the first partner, that of what it gives and that of
+// its reason, and the strides to the next ones. The partner at the skipped place is left out; each other that is done
+// gives its transition with the reason.
+pub struct PartnerWalk {
+    pub partner: usize,
+    pub place: usize,
+    pub stride: usize,
+    pub reason_place: usize,
+    pub reason_stride: usize,
+    pub skipped: usize,
+    pub reason: u16,
 }

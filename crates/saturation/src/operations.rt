@@ -5,21 +5,24 @@ use crate::begin;
 use crate::finished;
 use crate::run;
 use job::Checked;
+use job::REASON_NUMBERS;
+use job::TABLE_BYTES;
 ghost use mathlib.Core.Path.{_≡_};
 ghost use Rattle.saturation.specs.Operations.{machineCheck, startOf, advanceOf, startLeaves, advanceLeaves};
-ghost use Rattle.saturation.specs.Parts.{lentOf};
+ghost use Rattle.saturation.specs.Table.{lentOf};
 
 // The checks of start and advance: short buffers, then the job's.
 pub fn machine_check(job: &[u8], table: &[u8], reasons: &[u16]) -> Checked
-    ensures { λ c. ⌜ c ≡ machineCheck (now (job .entry)) (lentOf (now (table .entry)) (now (reasons .entry))) ⌝ }
+    ensures checked { λ c. ⌜ c
+        ≡ machineCheck (now (job .entry)) (lentOf (now (table .entry)) (now (reasons .entry))) ⌝ }
 {
-    if table.len() < 65536 {
+    if table.len() < TABLE_BYTES {
         return Checked {
             number: 10,
             place: 1,
         };
     }
-    if reasons.len() < 32768 {
+    if reasons.len() < REASON_NUMBERS {
         return Checked {
             number: 10,
             place: 2,
@@ -30,7 +33,10 @@ pub fn machine_check(job: &[u8], table: &[u8], reasons: &[u16]) -> Checked
 
 // Writes the table and the reasons that a job starts from, and answers its number of states.
 pub fn start(job: &[u8], table: &mut [u8], reasons: &mut [u16]) -> Started
-    ensures { λ r. ⌜ startLeaves r (lentOf (now (table .exit)) (now (reasons .exit))) ≡ startOf (now (job .entry)) (lentOf (now (table .entry)) (now (reasons .entry))) ⌝ }
+    ensures outcome { λ r. ⌜
+        startLeaves r (lentOf (now (table .exit)) (now (reasons .exit)))
+        ≡ startOf (now (job .entry)) (lentOf (now (table .entry)) (now (reasons .entry)))
+        ⌝ }
 {
     let c = machine_check(job, table, reasons);
     if c.number != 0 {
@@ -50,7 +56,10 @@ pub fn start(job: &[u8], table: &mut [u8], reasons: &mut [u16]) -> Started
 
 // Makes at most n steps on a table, whatever it holds.
 pub fn advance(job: &[u8], table: &mut [u8], reasons: &mut [u16], n: u64) -> Advanced
-    ensures { λ r. ⌜ advanceLeaves r (lentOf (now (table .exit)) (now (reasons .exit))) ≡ advanceOf (now (job .entry)) (lentOf (now (table .entry)) (now (reasons .entry))) n ⌝ }
+    ensures outcome { λ r. ⌜
+        advanceLeaves r (lentOf (now (table .exit)) (now (reasons .exit)))
+        ≡ advanceOf (now (job .entry)) (lentOf (now (table .entry)) (now (reasons .entry))) n
+        ⌝ }
 {
     let c = machine_check(job, table, reasons);
     if c.number != 0 {

@@ -1,39 +1,74 @@
--- Filling the first n places of a list, one after the other: what holds of each place below i, and is stored at i, holds of each below i + 1.
--- Assumes nothing.
-use mathlib.Core.Path.{_≡_, refl, _∙_}
-use Prim.Native.Nat.{ℕ, _+_, _<_, _≤_}
-use mathlib.Core.List.{List}
+-- Writing the first n numbers of a list, one after the other. Assumes nothing.
+use mathlib.Core.Path.{_≡_, refl, _∙_, ap}
+use Prim.Native.Nat.{ℕ, zero, suc, _+_, _<_}
+use mathlib.Core.Bool.{Bool}
+use mathlib.Core.List.{List, [], _∷_}
+use native.Mathlib.Nat.{add-zero, zero-add}
+use native.Mathlib.Numerals.{add-one}
 use native.Mathlib.Omega.{arith}
-use lib.ListN.{length, getD, set, drop, length-set}
-use lib.Seq.{drop-set-lt}
-use Rattle.verdicts.specs.Flags.{Filled, Written}
-use Rattle.verdicts.proofs.Places.{after-set}
+use lib.ListN.{length, getD, set, take, drop}
+use Rattle.grammar.specs.Counting.{one-if}
+use Rattle.verdicts.specs.Operation.{written}
+use Rattle.verdicts.specs.Inside.Flags.{Flags}
 
--- the first i of the n places are filled, and those from n on are as before
-pub record Filling (f : ℕ → ℕ) (n : ℕ) (before after : List ℕ) (i : ℕ) : Type 0 where
-  pub few : i ≤ n
-  pub long : length after ≡ length before
-  pub past : drop n after ≡ drop n before
-  pub at : (k : ℕ) → k < i → getD after k 0 ≡ f k
+pub written-long : (f : ℕ → ℕ) (i n : ℕ) (xs : List ℕ) → length (written f i n xs) ≡ length xs
+unfolding written
+written-long f i zero xs = refl
+written-long f i (suc n) [] = refl
+written-long f i (suc n) (x ∷ xs) = ap suc (written-long f (suc i) n xs)
 
-module _ {f : ℕ → ℕ} {n : ℕ} {before : List ℕ} where
-  pub filling-none : Filling f n before before 0
-  filling-none = record { few = omega arith; long = refl; past = refl; at = λ k l. absurd (omega arith) }
+-- the first n are given by their places
+written-from :
+    (f : ℕ → ℕ) (i n : ℕ) (xs : List ℕ) (k : ℕ) → k < n → k < length xs → getD (written f i n xs) k 0 ≡ f (i + k)
+unfolding written
+written-from f i zero xs k l m = absurd (omega arith)
+written-from f i (suc n) [] k l m = absurd (omega arith)
+written-from f i (suc n) (x ∷ xs) zero l m = rw add-zero
+written-from f i (suc n) (x ∷ xs) (suc k) l m =
+    let e : suc i + k ≡ i + suc k = omega arith in
+    rw e at (written-from f (suc i) n xs k (omega arith) (omega arith))
 
-  module _ {after : List ℕ} {i : ℕ} (a : Filling f n before after i) where
-    pub filling-more : {v : ℕ} → n ≤ length before → i < n → v ≡ f i → Filling f n before (set after i v) (i + 1)
-    filling-more {v} h l e =
-        let m : i < length after = omega (arith, a .long) in
-        record {
-          few = omega arith;
-          long = length-set after i v ∙ a .long;
-          past = drop-set-lt n after i v l ∙ a .past;
-          at = λ k j. after-set (λ z x. x ≡ f z) after i v m e k (λ d. a .at k (omega arith));
-        }
+pub written-at : (f : ℕ → ℕ) (n : ℕ) (xs : List ℕ) (k : ℕ) → k < n → k < length xs → getD (written f 0 n xs) k 0 ≡ f k
+written-at f n xs k l m = rw (zero-add k) at (written-from f 0 n xs k l m)
 
-    pub filling-all : n ≤ i → Written f n before after
-    filling-all l = record { long = a .long; past = a .past; at = λ k m. a .at k (omega arith) }
+-- one more is written
+written-next :
+    (f : ℕ → ℕ) (i n : ℕ) (xs : List ℕ) → n < length xs → set (written f i n xs) n (f (i + n)) ≡ written f i (suc n) xs
+unfolding written
+written-next f i n [] l = absurd (omega arith)
+written-next f i zero (x ∷ xs) l = rw add-zero
+written-next f i (suc n) (x ∷ xs) l =
+    let e : suc i + n ≡ i + suc n = omega arith in
+    ap (λ (ys : List ℕ). f i ∷ ys) (rw e at (written-next f (suc i) n xs (omega arith)))
 
-    -- all of the list
-    pub filling-whole : length before ≡ n → n ≤ i → Filled f n after
-    filling-whole h l = record { long = a .long ∙ h; at = λ k m. a .at k (omega arith) }
+pub written-more :
+    (f : ℕ → ℕ) (n : ℕ) (xs : List ℕ) {ys : List ℕ} {v : ℕ} → n < length xs → ys ≡ written f 0 n xs → v ≡ f n →
+    set ys n v ≡ written f 0 (n + 1) xs
+written-more f n xs l e p = rw (e, p, add-one n) (rw (zero-add n) at (written-next f 0 n xs l))
+
+-- flags that are written so hold the set
+pub written-flags :
+    {s : ℕ → Bool} {flags : List ℕ} (zeros : List ℕ) → length zeros ≡ 64 →
+    flags ≡ written (λ X. one-if (s X)) 0 64 zeros → Flags s flags
+written-flags {s} zeros long e =
+    record {
+      long = ap length e ∙ written-long (λ X. one-if (s X)) 0 64 zeros ∙ long;
+      at = λ X l. ap (λ (ys : List ℕ). getD ys X 0) e ∙ written-at (λ X. one-if (s X)) 64 zeros X l (omega arith);
+    }
+
+-- what is written depends on the length alone, and the rest is the rest
+pub written-alike :
+    (f : ℕ → ℕ) (i n : ℕ) (xs ys : List ℕ) → length xs ≡ length ys →
+    take n (written f i n xs) ≡ take n (written f i n ys)
+unfolding written
+written-alike f i zero xs ys e = refl
+written-alike f i (suc n) [] [] e = refl
+written-alike f i (suc n) [] (y ∷ ys) e = absurd (omega arith)
+written-alike f i (suc n) (x ∷ xs) [] e = absurd (omega arith)
+written-alike f i (suc n) (x ∷ xs) (y ∷ ys) e = ap (λ l. f i ∷ l) (written-alike f (suc i) n xs ys (omega arith))
+
+pub written-rest : (f : ℕ → ℕ) (i n : ℕ) (xs : List ℕ) → drop n (written f i n xs) ≡ drop n xs
+unfolding written
+written-rest f i zero xs = refl
+written-rest f i (suc n) [] = refl
+written-rest f i (suc n) (x ∷ xs) = written-rest f (suc i) n xs

@@ -1,7 +1,6 @@
+pub mod Sets
 pub mod Verdicts
 pub mod Operation
-pub mod Flags
-pub mod Passes
-pub mod Cycles
-pub mod Codes
+pub mod Meaning
+pub mod Inside
 pub mod Theorems

@@ -1,51 +1,63 @@
--- The verdicts on a grammar: codes, empty and growing, in the papers' words. Assumes nothing.
-use mathlib.Core.Path.{_≡_}
+-- The verdicts on a grammar, given by its rules and its start symbol: codes, empty and growing, computed. That they
+-- say what the papers' definitions say is proved (specs/Theorems). Assumes nothing.
 use Prim.Native.Nat.{ℕ}
-use mathlib.Core.Bool.{Bool, true, false, _||_}
-use mathlib.Core.List.{List, [], _∷_}
-use lib.Dec.{eqb}
-use Rattle.grammar.specs.Rule.{Rule, Rules, Among, empty, unit, pair}
-use Rattle.grammar.specs.Useful.{Productive, InContext}
-use Rattle.grammar.specs.Growing.{Growing}
-use Rattle.job.specs.Job.{Job}
+use mathlib.Core.Bool.{Bool, false, cond, not, _&&_, _||_}
+use mathlib.Core.List.{List, _∷_}
+use lib.Dec.{eqb, ltb, leb}
+use Rattle.grammar.specs.Rule.{Rule, head, body, empty, unit, pair}
+use Rattle.verdicts.specs.declared.Direction.the-variants.{Up, Down, Back}
+use Rattle.verdicts.specs.Sets.{anyIn, standsIn, within, anyRule, grown}
 
--- the grammar of a job: its rules as a set
-abbrev pub rulesOf : Job → Rules
-rulesOf J = Among (J .rules)
+-- The job: terminals are 32 to 63
+abbrev pub isTerminal : ℕ → Bool
+isTerminal X = leb 32 X && ltb X 64
+
+-- Verdicts: the symbols that derive a terminal string. [Lecture 25], Theorem 25.1, from the bottom up: the terminals,
+-- and the head of a rule whose body is all productive.
+unfoldable pub productive : List Rule → ℕ → Bool
+productive rules = grown Up rules isTerminal
+
+-- Verdicts: the useful symbols. [Lecture 25], Theorem 25.3, from the top down: among the rules whose symbols are all
+-- productive, the start symbol if it is productive, and the symbols of the body of a rule whose head is useful.
+unfoldable pub useful : List Rule → ℕ → ℕ → Bool
+useful rules S = grown Down (within (productive rules) rules) (λ X. eqb S X && productive rules X)
+
+-- Verdicts: the rules whose symbols are all useful, in the order of the list
+abbrev pub usefulRules : List Rule → ℕ → List Rule
+usefulRules rules S = within (useful rules S) rules
+
+-- the symbols that lead to Z in the graph of [Lecture 25], Theorem 25.4: Z, and the head of a rule with some symbol of
+-- its body among them
+unfoldable pub leads : List Rule → ℕ → ℕ → Bool
+leads rules Z = grown Back rules (λ X. eqb Z X)
+
+-- a pair rule with a symbol of its body that leads back to its head
+abbrev pub onCycle : List Rule → Rule → Bool
+onCycle rules (empty A) = false
+onCycle rules (unit A X) = false
+onCycle rules (pair A X Y) = anyIn (leads rules A) (body (pair A X Y))
+
+-- some pair rule stands on a cycle of the rules
+unfoldable pub cyclic : List Rule → Bool
+cyclic rules = anyRule (onCycle rules) rules
+
+-- Verdicts: a grammar grows if a pair rule stands on a cycle of its useful rules
+abbrev pub growing : List Rule → ℕ → Bool
+growing rules S = cyclic (usefulRules rules S)
+
+-- Verdicts: a grammar is empty if its start symbol is not productive
+abbrev pub isEmpty : List Rule → ℕ → Bool
+isEmpty rules S = not (productive rules S)
 
 -- the symbol is the rule's head or stands in its body
 abbrev pub names : ℕ → Rule → Bool
-names X (empty A) = eqb A X
-names X (unit A Y) = eqb A X || eqb Y X
-names X (pair A Y Z) = eqb A X || eqb Y X || eqb Z X
+names X ρ = standsIn X (head ρ ∷ body ρ)
 
--- some rule of the list names the symbol
-unfoldable pub namedIn : ℕ → List Rule → Bool
-namedIn X [] = false
-namedIn X (ρ ∷ ρs) = names X ρ || namedIn X ρs
+-- the symbol is the start symbol or stands in a rule
+abbrev pub isNamed : List Rule → ℕ → ℕ → Bool
+isNamed rules S X = eqb S X || anyRule (names X) rules
 
--- 01, Verdicts, code 0 is for what is "named in no rule and not the start"
-abbrev pub isNamed : Job → ℕ → Bool
-isNamed J X = eqb (J .start) X || namedIn X (J .rules)
-
--- 01, Verdicts: "Codes, one per symbol: 0 named in no rule and not the start; 1 useful; 2 derives no terminal string; 3 derives one, but the
--- start symbol derives no w₁Xw₂ with w₁, w₂ terminal strings. Where 2 and the failure in 3 both hold, 2."
-pub data CodeIs (J : Job) (X : ℕ) : ℕ → Type 0 where
-  unnamed : isNamed J X ≡ false → CodeIs J X 0
-  useful : isNamed J X ≡ true → Productive (rulesOf J) X → InContext (rulesOf J) (J .start) X → CodeIs J X 1
-  unproductive : isNamed J X ≡ true → (Productive (rulesOf J) X → ⊥) → CodeIs J X 2
-  unreached :
-      isNamed J X ≡ true → Productive (rulesOf J) X → (InContext (rulesOf J) (J .start) X → ⊥) → CodeIs J X 3
-
--- a yes or no that says whether a statement holds
-pub record Says (answer : Bool) (P : Type 0) : Type 0 where
-  pub yes : answer ≡ true → P
-  pub no : answer ≡ false → P → ⊥
-
--- 01, Verdicts: "Empty: the start symbol derives no terminal string."
-abbrev pub EmptyIs : Job → Bool → Type 0
-EmptyIs J answer = Says answer (Productive (rulesOf J) (J .start) → ⊥)
-
--- 01, Verdicts: growing, by the rule of crate grammar's specs/Growing
-abbrev pub GrowingIs : Job → Bool → Type 0
-GrowingIs J answer = Says answer (Growing (rulesOf J) (J .start))
+-- Verdicts: the code of a symbol is 0 if it is not named, else 2 if it is not productive, else 1 if it is useful,
+-- else 3
+abbrev pub codeOf : List Rule → ℕ → ℕ → ℕ
+codeOf rules S X = cond (isNamed rules S X) (cond (productive rules X) (cond (useful rules S X) 1 3) 2) 0

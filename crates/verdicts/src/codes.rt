@@ -1,70 +1,73 @@
 // The code of each symbol.
+use crate::SYMBOLS;
 use crate::flags;
-use crate::flags::KIND_E;
-use crate::flags::KIND_U;
+use job::RULES;
+use job::Rule;
 ghost use mathlib.Core.Path.{_≡_};
-ghost use mathlib.Core.Bool.{true};
-ghost use Prim.Native.Nat.{_<_, _≤_};
+ghost use mathlib.Core.Bool.{Bool, cond, _||_};
+ghost use Prim.Native.Nat.{ℕ, _<_, _≤_};
+ghost use lib.Dec.{eqb};
 ghost use lib.ListN.{length};
-ghost use Rattle.job.specs.Keys.{KeyFits, ruleOfKey};
-ghost use Rattle.verdicts.specs.Verdicts.{names};
-ghost use Rattle.verdicts.specs.Flags.{Flagged, Keys, rulesOfKeys};
-ghost use Rattle.verdicts.specs.Codes.{Marked, namedBy, codeOf, CodesWritten};
+ghost use Rattle.verdicts.specs.Verdicts.{names, isNamed};
+ghost use Rattle.verdicts.specs.Operation.{written};
+ghost use Rattle.verdicts.specs.Inside.Flags.{Flags, Holds, Bits, ruleFrom, RuleFits, Keys, rulesOfKeys};
 
 // Makes the flags of the symbols that a rule names 1.
-fn name_rule(key: u32, named: &mut [u8; 64])
-    requires { ⌜ KeyFits key × (length (now named) ≡ 64) ⌝ }
-    ensures { λ _. ⌜ Marked (λ X. names X (ruleOfKey key)) 64 (now (named .entry)) (now (named .exit)) ⌝ }
+fn name_rule(flags: &mut [u8; SYMBOLS], rule: Rule)
+    requires rule { ⌜ RuleFits rule ⌝ }
+    requires flags { ⌜ Bits (now flags) ⌝ }
+    ensures { λ _. ⌜ ((set : ℕ → Bool) → Flags set (now (flags .entry)) →
+        Flags (λ X. set X || names X (ruleFrom rule)) (now (flags .exit))) ⌝ }
 {
-    let kind = key / 65536 % 256;
-    named[(key / 16777216) as usize] = 1;
-    if kind == KIND_E {
-        return;
-    }
-    named[(key / 256 % 256) as usize] = 1;
-    if kind == KIND_U {
-        return;
-    }
-    named[(key % 256) as usize] = 1;
+    flags::raise(flags, rule.head, true);
+    flags::raise_body(flags, rule, true);
 }
 
 // A flag for each symbol: 1 where a rule names it or it is the start symbol, else 0.
-pub fn named_symbols(keys: &[u32; 256], n: usize, start: u8, named: &mut [u8; 64])
-    requires { ⌜ Keys (now keys) n × (length (now named) ≡ 64) ⌝ }
-    ensures { λ _. ⌜ Flagged (λ X. namedBy start (rulesOfKeys (now (keys .entry)) n) X ≡ true) 64 (now (named .exit)) ⌝ }
+pub fn named_symbols(keys: &[u32; RULES], n: usize, start: u8, flags: &mut [u8; SYMBOLS])
+    requires rules { ⌜ Keys (now keys) n ⌝ }
+    requires start { ⌜ start < 64 ⌝ }
+    ensures { λ _. ⌜ Flags (isNamed (rulesOfKeys (now (keys .entry)) n) start) (now (flags .exit)) ⌝ }
 {
-    flags::flag_only(named, start);
+    flags::flag_one(flags, start, true);
     let mut k = 0;
     while k < n {
-        name_rule(keys[k], named);
+        name_rule(flags, job::rules::unpack(keys[k]));
         k += 1;
     }
 }
 
 // The code of a symbol by its three flags.
-fn code_of(named: u8, productive: u8, reached: u8) -> u8
-    ensures { λ r. ⌜ r ≡ codeOf named productive reached ⌝ }
+fn code_of(named: u8, productive: u8, useful: u8) -> u8
+    ensures { λ r. ⌜ r ≡ cond (eqb named 1) (cond (eqb productive 1) (cond (eqb useful 1) 1 3) 2) 0 ⌝ }
 {
-    if named == 0 {
+    if named != 1 {
         return 0;
     }
-    if productive == 0 {
+    if productive != 1 {
         return 2;
     }
-    if reached == 0 {
+    if useful != 1 {
         return 3;
     }
     1
 }
 
 // Writes the codes of the 64 symbols.
-pub fn write_codes(named: &[u8; 64], productive: &[u8; 64], reached: &[u8; 64], codes: &mut [u8])
+pub fn write_codes(
+    named: &[u8; SYMBOLS],
+    productive: &[u8; SYMBOLS],
+    useful: &[u8; SYMBOLS],
+    codes: &mut [u8],
+)
     requires { ⌜ 64 ≤ length (now codes) ⌝ }
-    ensures { λ _. ⌜ CodesWritten (now (named .entry)) (now (productive .entry)) (now (reached .entry)) (now (codes .entry)) (now (codes .exit)) ⌝ }
+    ensures { λ _. ⌜ ((n p u : ℕ → Bool) → Holds n (now (named .entry)) → Holds p (now (productive .entry)) →
+        Holds u (now (useful .entry)) →
+        now (codes .exit) ≡ written (λ X. cond (n X) (cond (p X) (cond (u X) 1 3) 2) 0) 0 64 (now (codes .entry))) ⌝ }
 {
     let mut x = 0;
-    while x < 64 {
-        codes[x] = code_of(named[x], productive[x], reached[x]);
+    while x < SYMBOLS {
+        codes[x] = code_of(named[x], productive[x], useful[x]);
         x += 1;
     }
 }

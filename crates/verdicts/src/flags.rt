@@ -1,105 +1,115 @@
-// Flags of 0 or 1 by symbol. A set of symbols is built up by raising flags until a pass over the rules raises none. A rule is given by its sort
-// key, whose four bytes are its head, its kind byte and the two symbols of its body.
+// Flags of 0 or 1 by symbol, which hold a set of symbols.
+use crate::SYMBOLS;
+use job::Rule;
 ghost use mathlib.Core.Path.{_≡_};
-ghost use Prim.Native.Nat.{_<_};
-ghost use lib.Dec.{eqb, leb};
-ghost use lib.ListN.{length};
+ghost use mathlib.Core.Bool.{Bool, _&&_, _||_};
+ghost use Prim.Native.Nat.{ℕ, _<_};
+ghost use lib.Dec.{eqb};
 ghost use Rattle.grammar.specs.Rule.{body};
-ghost use Rattle.grammar.specs.Counting.{one-if};
-ghost use Rattle.job.specs.Keys.{KeyFits, ruleOfKey};
-ghost use Rattle.verdicts.specs.Flags.{Filled, allFlagged, anyFlagged};
-ghost use Rattle.verdicts.specs.Passes.{Raised};
-
-// The kind bytes of the rules A → ε and A → X in a sort key.
-pub const KIND_E: u32 = 69;
-
-pub const KIND_U: u32 = 85;
-
-// 1 for true, 0 for false.
-pub fn one_if(test: bool) -> u8
-    ensures { λ r. ⌜ r ≡ one-if test ⌝ }
-{
-    if test {
-        return 1;
-    }
-    0
-}
-
-// The flag of one symbol is 1, all others are 0.
-pub fn flag_only(flags: &mut [u8; 64], symbol: u8)
-    requires { ⌜ length (now flags) ≡ 64 ⌝ }
-    ensures { λ _. ⌜ Filled (λ i. one-if (eqb symbol i)) 64 (now (flags .exit)) ⌝ }
-{
-    let mut i: u8 = 0;
-    while i < 64 {
-        flags[i as usize] = one_if(symbol == i);
-        i += 1;
-    }
-}
-
-// The flags of the terminals are 1, those of the variables 0.
-pub fn flag_terminals(flags: &mut [u8; 64])
-    requires { ⌜ length (now flags) ≡ 64 ⌝ }
-    ensures { λ _. ⌜ Filled (λ i. one-if (leb 32 i)) 64 (now (flags .exit)) ⌝ }
-{
-    let mut i = 0;
-    while i < 64 {
-        flags[i] = one_if(32 <= i);
-        i += 1;
-    }
-}
+ghost use Rattle.verdicts.specs.Sets.{allIn, anyIn, standsIn, ruleIn};
+ghost use Rattle.verdicts.specs.Verdicts.{isTerminal};
+ghost use Rattle.verdicts.specs.Inside.Flags.{Flags, flagged, Bits, Raised, ruleFrom, RuleFits};
 
 // Makes a flag 1 if a test says so. Returns how many flags that made 1: one or none.
-pub fn raise(flags: &mut [u8; 64], at: usize, test: bool) -> usize
-    requires { ⌜ (at < 64) × (length (now flags) ≡ 64) ⌝ }
-    ensures { λ r. ⌜ Raised test at (now (flags .entry)) (now (flags .exit)) r ⌝ }
+pub fn raise(flags: &mut [u8; SYMBOLS], symbol: u8, test: bool) -> usize
+    requires symbol { ⌜ symbol < 64 ⌝ }
+    requires flags { ⌜ Bits (now flags) ⌝ }
+    ensures { λ r. ⌜ ((set : ℕ → Bool) → Flags set (now (flags .entry)) →
+        Raised set (λ X. set X || (test && eqb symbol X)) (now (flags .exit)) r) ⌝ }
 {
     if !test {
         return 0;
     }
-    if flags[at] == 1 {
+    if flags[symbol as usize] == 1 {
         return 0;
     }
-    flags[at] = 1;
+    flags[symbol as usize] = 1;
     1
 }
 
-// Whether each symbol of a rule's body is flagged.
-pub fn body_all(key: u32, flags: &[u8; 64]) -> bool
-    requires { ⌜ KeyFits key ⌝ }
-    ensures { λ r. ⌜ r ≡ allFlagged (now (flags .entry)) (body (ruleOfKey key)) ⌝ }
+// Makes the flags of the symbols of a rule's body 1 if a test says so. Returns how many flags are new.
+pub fn raise_body(flags: &mut [u8; SYMBOLS], rule: Rule, test: bool) -> usize
+    requires rule { ⌜ RuleFits rule ⌝ }
+    requires flags { ⌜ Bits (now flags) ⌝ }
+    ensures { λ r. ⌜ ((set : ℕ → Bool) → Flags set (now (flags .entry)) →
+        Raised set (λ X. set X || (test && standsIn X (body (ruleFrom rule)))) (now (flags .exit)) r) ⌝ }
 {
-    let kind = key / 65536 % 256;
-    let second = (key / 256 % 256) as usize;
-    let third = (key % 256) as usize;
-    if kind == KIND_E {
+    if rule.kind == b'E' {
+        return 0;
+    }
+    let second = raise(flags, rule.second, test);
+    if rule.kind == b'U' {
+        return second;
+    }
+    let third = raise(flags, rule.third, test);
+    second + third
+}
+
+// The flag of one symbol is 1 if a test says so, all others are 0.
+pub fn flag_one(flags: &mut [u8; SYMBOLS], symbol: u8, test: bool)
+    requires { ⌜ symbol < 64 ⌝ }
+    ensures { λ _. ⌜ Flags (λ X. eqb symbol X && test) (now (flags .exit)) ⌝ }
+{
+    // stored whole first: a proof knows the length of an array behind a reference only after that
+    let none = [0u8; SYMBOLS];
+    *flags = none;
+    raise(flags, symbol, test);
+}
+
+// The flags of the terminals are 1, those of the variables 0.
+pub fn flag_terminals(flags: &mut [u8; SYMBOLS])
+    ensures { λ _. ⌜ Flags isTerminal (now (flags .exit)) ⌝ }
+{
+    let none = [0u8; SYMBOLS];
+    *flags = none;
+    let mut x: u8 = 0;
+    while x < 64 {
+        flags[x as usize] = job::one_if(grammar::is_terminal(x));
+        x += 1;
+    }
+}
+
+// Whether each symbol of a rule's body is flagged.
+pub fn body_all(rule: Rule, flags: &[u8; SYMBOLS]) -> bool
+    requires { ⌜ RuleFits rule ⌝ }
+    ensures { λ r. ⌜ r ≡ allIn (flagged (now (flags .entry))) (body (ruleFrom rule)) ⌝ }
+{
+    if rule.kind == b'E' {
         return true;
     }
-    if flags[second] != 1 {
+    if flags[rule.second as usize] != 1 {
         return false;
     }
-    if kind == KIND_U {
+    if rule.kind == b'U' {
         return true;
     }
-    flags[third] == 1
+    flags[rule.third as usize] == 1
 }
 
 // Whether some symbol of a rule's body is flagged.
-pub fn body_any(key: u32, flags: &[u8; 64]) -> bool
-    requires { ⌜ KeyFits key ⌝ }
-    ensures { λ r. ⌜ r ≡ anyFlagged (now (flags .entry)) (body (ruleOfKey key)) ⌝ }
+pub fn body_any(rule: Rule, flags: &[u8; SYMBOLS]) -> bool
+    requires { ⌜ RuleFits rule ⌝ }
+    ensures { λ r. ⌜ r ≡ anyIn (flagged (now (flags .entry))) (body (ruleFrom rule)) ⌝ }
 {
-    let kind = key / 65536 % 256;
-    let second = (key / 256 % 256) as usize;
-    let third = (key % 256) as usize;
-    if kind == KIND_E {
+    if rule.kind == b'E' {
         return false;
     }
-    if flags[second] == 1 {
+    if flags[rule.second as usize] == 1 {
         return true;
     }
-    if kind == KIND_U {
+    if rule.kind == b'U' {
         return false;
     }
-    flags[third] == 1
+    flags[rule.third as usize] == 1
+}
+
+// Whether all symbols of a rule are flagged.
+pub fn rule_all(rule: Rule, flags: &[u8; SYMBOLS]) -> bool
+    requires { ⌜ RuleFits rule ⌝ }
+    ensures { λ r. ⌜ r ≡ ruleIn (flagged (now (flags .entry))) (ruleFrom rule) ⌝ }
+{
+    if flags[rule.head as usize] != 1 {
+        return false;
+    }
+    body_all(rule, flags)
 }

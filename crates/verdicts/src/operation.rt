@@ -1,31 +1,34 @@
 // The verdicts, for every input.
+use crate::SYMBOLS;
 use crate::Verdicts;
 use crate::codes;
-use crate::growth;
+use crate::cycles;
 use crate::usefulness;
+use job::CODE_BYTES;
 use job::Checked;
+use job::RULES;
+use job::TABLE_BYTES;
 ghost use mathlib.Core.Path.{_≡_};
 ghost use mathlib.Core.Bool.{false};
-ghost use mathlib.Core.List.{List};
-ghost use Prim.Native.Nat.{ℕ, _<_, _≤_};
+ghost use Prim.Native.Nat.{_<_, _≤_};
 ghost use lib.ListN.{length};
-ghost use Rattle.job.specs.Check.{checkOf, accepted};
-ghost use Rattle.job.specs.Show.{fullLimits};
-ghost use Rattle.job.specs.Job.{Job, jobOf};
-ghost use Rattle.verdicts.specs.Flags.{Keys, rulesOfKeys, Written};
-ghost use Rattle.verdicts.specs.Operation.{verdictsCheck, Given, VerdictsOutcome};
+ghost use Rattle.job.specs.Accepted.{Accepted};
+ghost use Rattle.job.specs.Job.{jobOf};
+ghost use Rattle.verdicts.specs.Verdicts.{isEmpty, growing, codeOf};
+ghost use Rattle.verdicts.specs.Operation.{verdictsCheck, written, verdictsOn, verdictsLeave, verdictsOf};
+ghost use Rattle.verdicts.specs.Inside.Flags.{Keys, rulesOfKeys};
 
 // The checks of the verdicts: short buffers, then the job's, no I needed.
 fn verdicts_check(job: &[u8], table: &[u8], codes: &[u8]) -> Checked
     ensures { λ r. ⌜ r ≡ verdictsCheck (now (job .entry)) (now (table .entry)) (now (codes .entry)) ⌝ }
 {
-    if table.len() < 65536 {
+    if table.len() < TABLE_BYTES {
         return Checked {
             number: 10,
             place: 1,
         };
     }
-    if codes.len() < 64 {
+    if codes.len() < CODE_BYTES {
         return Checked {
             number: 10,
             place: 3,
@@ -34,33 +37,29 @@ fn verdicts_check(job: &[u8], table: &[u8], codes: &[u8]) -> Checked
     job::check::check(job, job::show::full_limits(), false)
 }
 
-// Makes the first 65,536 bytes 0.
-fn clear_table(table: &mut [u8])
-    requires { ⌜ 65536 ≤ length (now table) ⌝ }
-    ensures { λ _. ⌜ Written (λ _. 0) 65536 (now (table .entry)) (now (table .exit)) ⌝ }
+// The verdicts on the rules of n keys and a start symbol.
+fn judge(keys: &[u32; RULES], n: usize, start: u8, codes: &mut [u8]) -> Verdicts
+    requires rules { ⌜ Keys (now keys) n ⌝ }
+    requires start { ⌜ start < 64 ⌝ }
+    requires lent { ⌜ 64 ≤ length (now codes) ⌝ }
+    ensures answer { λ r. ⌜ r ≡ record {
+      number = 0;
+      place = 0;
+      empty = isEmpty (rulesOfKeys (now (keys .entry)) n) start;
+      growing = growing (rulesOfKeys (now (keys .entry)) n) start;
+    } ⌝ }
+    ensures codes { λ _. ⌜ now (codes .exit)
+        ≡ written (codeOf (rulesOfKeys (now (keys .entry)) n) start) 0 64 (now (codes .entry)) ⌝ }
 {
-    let mut i = 0;
-    while i < 65536 {
-        table[i] = 0;
-        i += 1;
-    }
-}
-
-// The verdicts on the rules of n keys and a start symbol, whatever table is cleared besides.
-fn judge(keys: &[u32; 256], n: usize, start: u8, codes: &mut [u8]) -> Verdicts
-    requires { ⌜ Keys (now keys) n × (start < 64) × (64 ≤ length (now codes)) ⌝ }
-    ensures { λ r. ⌜ ((J : Job) (table cleared : List ℕ) → J .rules ≡ rulesOfKeys (now (keys .entry)) n → J .start ≡ start →
-        Written (λ _. 0) 65536 table cleared → Given J table (now (codes .entry)) r cleared (now (codes .exit))) ⌝ }
-{
-    let mut productive = [0u8; 64];
+    let mut productive = [0u8; SYMBOLS];
     usefulness::productive_symbols(keys, n, &mut productive);
-    let mut reached = [0u8; 64];
-    usefulness::reached_symbols(keys, n, start, &productive, &mut reached);
-    let mut named = [0u8; 64];
+    let mut useful = [0u8; SYMBOLS];
+    usefulness::useful_symbols(keys, n, start, &productive, &mut useful);
+    let mut named = [0u8; SYMBOLS];
     codes::named_symbols(keys, n, start, &mut named);
-    codes::write_codes(&named, &productive, &reached, codes);
-    let growing = growth::is_growing(keys, n, &productive, &reached);
-    let empty = productive[start as usize] == 0;
+    codes::write_codes(&named, &productive, &useful, codes);
+    let growing = cycles::any_cycle(keys, n, &useful);
+    let empty = productive[start as usize] != 1;
     Verdicts {
         number: 0,
         place: 0,
@@ -71,19 +70,23 @@ fn judge(keys: &[u32; 256], n: usize, start: u8, codes: &mut [u8]) -> Verdicts
 
 // The verdicts on an accepted job.
 fn give(job: &[u8], table: &mut [u8], codes: &mut [u8]) -> Verdicts
-    requires { ⌜ (checkOf fullLimits false (now job) ≡ accepted) × (65536 ≤ length (now table)) × (64 ≤ length (now codes)) ⌝ }
-    ensures { λ r. ⌜ Given (jobOf (now (job .entry))) (now (table .entry)) (now (codes .entry)) r (now (table .exit)) (now (codes .exit)) ⌝ }
+    requires accepted { ⌜ Accepted false (now job) ⌝ }
+    requires table { ⌜ 65536 ≤ length (now table) ⌝ }
+    requires codes { ⌜ 64 ≤ length (now codes) ⌝ }
+    ensures { λ r. ⌜ verdictsLeave r (now (table .exit)) (now (codes .exit))
+        ≡ verdictsOn (jobOf (now (job .entry))) (now (table .entry)) (now (codes .entry)) ⌝ }
 {
-    let mut keys = [0u32; 256];
+    let mut keys = [0u32; RULES];
     let n = job::rules::sorted_rules(job, &mut keys);
     let start = job::lookup::field_of(job, b'S');
-    clear_table(table);
+    job::clear::clear_table(table);
     judge(&keys, n, start, codes)
 }
 
 // Codes of the 64 symbols, and whether the language is empty and whether it grows. The table is scratch, left 0.
 pub fn verdicts(job: &[u8], table: &mut [u8], codes: &mut [u8]) -> Verdicts
-    ensures { λ r. ⌜ VerdictsOutcome (now (job .entry)) (now (table .entry)) (now (codes .entry)) r (now (table .exit)) (now (codes .exit)) ⌝ }
+    ensures { λ r. ⌜ verdictsLeave r (now (table .exit)) (now (codes .exit))
+        ≡ verdictsOf (now (job .entry)) (now (table .entry)) (now (codes .entry)) ⌝ }
 {
     let c = verdicts_check(job, table, codes);
     if c.number != 0 {

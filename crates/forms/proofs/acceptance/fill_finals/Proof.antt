@@ -1,9 +1,10 @@
--- `acceptance::fill_finals` meets its contract. The loop's invariant: the first q flags of the row are filled. Assumes nothing.
+-- `acceptance::fill_finals` meets its contract. The loop's invariant: the first q flags of the row are filled.
+-- Assumes nothing.
 use mathlib.Core.Path.{_≡_, refl}
 use Prim.Native.Nat.{_-_, _≤_}
 use native.Mathlib.Omega.{arith}
 use lib.ListN.{getD}
-use Rattle.forms.specs.Parts.{RowFilled}
+use Rattle.forms.specs.Inside.AcceptanceParts.{RowFilled}
 use Rattle.forms.proofs.Flags.{row-empty, row-more}
 use Rattle.forms.proofs.acceptance.fill_finals.Statement.{statement}
 use Rattle.forms.proofs.acceptance.fill_finals.Tie as tie

@@ -1,18 +1,17 @@
--- `acceptance::fill_finish` meets its contract. The loop's invariant: for every job with these final states, the flags of the positions from i
--- on are right. Assumes nothing.
+-- `acceptance::fill_finish` meets its contract. The loop's invariant: the flags of the positions from i on are right.
+-- Assumes nothing.
 use mathlib.Core.Path.{_≡_, _∙_}
 use Prim.Native.Nat.{_-_, _≤_}
 use native.Mathlib.Omega.{arith}
 use lib.ListN.{length}
-use Rattle.job.specs.Job.{Job}
-use Rattle.forms.specs.Parts.{FinalFlags}
+use Rattle.forms.specs.Inside.AcceptanceParts.{flagged}
 use Rattle.forms.proofs.Flags.{FlagsFrom, flags-of-end, flags-before}
 use Rattle.forms.proofs.acceptance.fill_finish.Statement.{statement}
 use Rattle.forms.proofs.acceptance.fill_finish.Tie as tie
 
 abbrev Inv-loop : tie.InvT-loop
 Inv-loop table form finals finish₀ i₀ finish i =
-    (i ≤ length form) × (length finish ≡ 2080) × ((J : Job) → FinalFlags J finals → FlagsFrom J table form finish i)
+    (i ≤ length form) × (length finish ≡ 2080) × FlagsFrom (flagged finals) table form finish i
 
 abbrev μ-loop : tie.MeasureT-loop
 μ-loop table form finals finish₀ i₀ finish i = i
@@ -25,8 +24,12 @@ fill-finals-requires c κs =
 loop-holds : tie.Need-loop-holds Inv-loop μ-loop
 loop-holds c =
     let s = c .before .before .before .before in
-    let end = c .fill-finals .ensures in
-    (omega arith, end .size ∙ s .pre .2, λ J final. flags-of-end (s .args .finals .now) final end)
+    let end = c .fill-finals .ensures in (
+      omega arith,
+      end .size ∙ s .pre .2,
+      flags-of-end (s .args .table .now) (s .args .form .now)
+          (s .args .finals .now) end,
+    )
 
 cast-fill-row : tie.Need-cast-fill-row Inv-loop μ-loop
 cast-fill-row c = omega (arith, c .shared-slice-known3 .given (c .before .before .before .loop .i - 1))
@@ -41,12 +44,12 @@ loop-again : tie.Need-loop-again Inv-loop μ-loop
 loop-again c =
     let h = c .before .before .before .before .loop in
     let row = c .fill-row .ensures in
-    (omega arith, row .size ∙ h .inv .1, λ J final. flags-before (omega arith) (omega arith) (h .inv .2 J final) row)
+    (omega arith, row .size ∙ h .inv .1, flags-before (omega arith) (omega arith) (h .inv .2) row)
 
 returns : tie.Need-returns Inv-loop μ-loop
 returns c =
     let h = c .before .loop in
-    λ J final i q l below. h .inv .2 J final .right i q (omega arith) l below
+    λ i q l below. h .inv .2 .right i q (omega arith) l below
 
 pub fill-finish-spec : {M : Type 1} → statement M
 fill-finish-spec =

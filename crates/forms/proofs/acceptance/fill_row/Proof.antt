@@ -1,9 +1,9 @@
--- `acceptance::fill_row` meets its contract. The loop's invariant: the first q flags of the row are filled from the row of the next position,
--- which stays as it was. Assumes nothing.
+-- `acceptance::fill_row` meets its contract. The loop's invariant: the first q flags of the row are filled from the
+-- row of the next position, which stays as it was. Assumes nothing.
 use mathlib.Core.Path.{_≡_}
 use Prim.Native.Nat.{_+_, _-_, _≤_}
 use native.Mathlib.Omega.{arith}
-use Rattle.forms.specs.Parts.{stateFlag, RowFilled}
+use Rattle.forms.specs.Inside.AcceptanceParts.{stateFlag, RowFilled}
 use Rattle.forms.proofs.Flags.{row-empty, row-found}
 use Rattle.forms.proofs.acceptance.fill_row.Statement.{statement}
 use Rattle.forms.proofs.acceptance.fill_row.Tie as tie
@@ -21,8 +21,11 @@ loop-holds c = (omega arith, row-empty _ _ _)
 loop-again : tie.Need-loop-again Inv-loop μ-loop
 loop-again c =
     let s = c .before .before .before .before .before in
-    let h = c .before .before .before .loop .inv .1 in
-    (omega arith, row-found (s .args .table .now) (s .args .symbol) h _ (omega arith) (omega arith) (s .pre .3) (c .state-flag .ensures))
+    let h = c .before .before .before .loop .inv .1 in (
+      omega arith,
+      row-found (s .args .table .now) (s .args .symbol) h _ (omega arith) (omega arith) (s .pre .3)
+          (c .state-flag .ensures),
+    )
 
 returns : tie.Need-returns Inv-loop μ-loop
 returns c =

@@ -1,18 +1,19 @@
--- `acceptance::next_state` meets its contract. The loop's invariant: the search from r on finds what the search from 0 on finds.
--- Assumes nothing.
+-- `acceptance::next_state` meets its contract. The loop's invariant: the search from r on finds what the search from
+-- 0 on finds. Assumes nothing.
 use mathlib.Core.Path.{_≡_, refl, sym, _∙_}
 use Prim.Native.Nat.{_-_, _≤_}
 use native.Mathlib.Omega.{arith}
-use Rattle.saturation.specs.Table.{doneAt}
-use Rattle.forms.specs.Acceptance.{firstFrom}
-use Rattle.forms.specs.Parts.{goesOn}
-use Rattle.forms.proofs.Searching.{search-stops, search-goes-on, search-ends}
+use Rattle.saturation.specs.Table.{doneIn, statuses}
+use Rattle.saturation.specs.Step.{firstFrom}
+use Rattle.forms.specs.Inside.AcceptanceParts.{goesOn}
+use Rattle.saturation.proofs.Tables.FirstFrom.{search-stops, search-goes-on, search-ends}
 use Rattle.forms.proofs.acceptance.next_state.Statement.{statement}
 use Rattle.forms.proofs.acceptance.next_state.Tie as tie
 
 abbrev Inv-loop : tie.InvT-loop
 Inv-loop table finish symbol next q from row r₀ r =
-    (r ≤ 32) × (firstFrom (goesOn table finish symbol next q) r (32 - r) ≡ firstFrom (goesOn table finish symbol next q) 0 32)
+    (r ≤ 32) × (firstFrom (goesOn table finish symbol next q) r (32 - r)
+    ≡ firstFrom (goesOn table finish symbol next q) 0 32)
 
 abbrev μ-loop : tie.MeasureT-loop
 μ-loop table finish symbol next q from row r₀ r = 32 - r
@@ -21,16 +22,19 @@ loop-holds : tie.Need-loop-holds Inv-loop μ-loop
 loop-holds c = (omega arith, refl)
 
 returns : tie.Need-returns Inv-loop μ-loop
-unfolding doneAt
+unfolding doneIn statuses
 returns c =
     let h = c .before .before .before .loop in
     sym (search-stops _ 32 (h .r) (omega arith) (sym (c .before .step-finishes .ensures) ∙ c .if1 .taken)) ∙ h .inv .1
 
 loop-again : tie.Need-loop-again Inv-loop μ-loop
-unfolding doneAt
+unfolding doneIn statuses
 loop-again c =
-    let h = c .before .before .before .loop in
-    (omega arith, search-goes-on _ 32 (h .r) (omega arith) (sym (c .before .step-finishes .ensures) ∙ c .if1 .left) ∙ h .inv .1)
+    let h = c .before .before .before .loop in (
+      omega arith,
+      search-goes-on _ 32 (h .r) (omega arith) (sym (c .before .step-finishes .ensures) ∙ c .if1 .left)
+          ∙ h .inv .1,
+    )
 
 returns-2 : tie.Need-returns-2 Inv-loop μ-loop
 returns-2 c =

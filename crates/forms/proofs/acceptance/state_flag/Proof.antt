@@ -1,4 +1,5 @@
--- `acceptance::state_flag` meets its contract: some state passes exactly where the first that passes is below 32. Assumes nothing.
+-- `acceptance::state_flag` meets its contract: some state passes exactly where the first that passes is below 32.
+-- Assumes nothing.
 use borrow.Author.Needs.{needs}
 use borrow.Author.Tests.{lt-ltb, le-ltb}
 use Rattle.forms.proofs.Searching.{some-is-first}

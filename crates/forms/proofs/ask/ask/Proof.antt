@@ -1,12 +1,11 @@
--- `forms::ask::ask` meets its contract: a refusal passes on, and the answer is the flag of the whole form at the initial state.
--- Assumes nothing.
-use mathlib.Core.Path.{_∙_, ap}
+-- `forms::ask::ask` meets its contract: a refusal passes on, and the answer is the flag of the whole form at the
+-- initial state. Assumes nothing.
+use mathlib.Core.Path.{sym, _∙_}
+use Rattle.job.proofs.AcceptedFacts.{job-initial}
 use borrow.Author.Needs.{needs}
-use lib.Dec.{eqb}
 use denote.Ref.{now}
-use Rattle.job.specs.Job.{jobOf}
 use Rattle.forms.proofs.FormChecks.{ask-passed}
-use Rattle.forms.proofs.AskAnswers.{ask-refused, ask-answered, flag-is, initial-flag, none-refused}
+use Rattle.forms.proofs.AskAnswers.{ask-refused, ask-answered, job-flags, initial-flag, none-refused}
 use Rattle.forms.proofs.ask.ask.Statement.{statement}
 use Rattle.forms.proofs.ask.ask.Tie as tie
 
@@ -15,27 +14,25 @@ returns c = ask-refused _ _ _ _ (c .before .before .ask-check .ensures) (c .if1 
 
 fill-finish-requires : tie.Need-fill-finish-requires
 fill-finish-requires c κs =
-    let p = ask-passed _ _ _ (none-refused _ _ (c .before .before .before .before .before .ask-check .ensures) (c .before .before .before .if1 .left)) in
+    let p = ask-passed _ _ _
+    (none-refused _ _ (c .before .before .before .before .before .ask-check .ensures)
+    (c .before .before .before .if1 .left)) in
     (p .long, p .form-fits, search needs)
 
 returns-2 : tie.Need-returns-2
 returns-2 c =
     let a = c .before .before .before .before .before .before .before .before .before .before .before .args in
     let job = now (a .job) in
-    let ok = none-refused _ _ (c .before .before .before .before .before .before .before .ask-check .ensures) (c .before .before .before .before .before .if1 .left) in
+    let ok = none-refused _ _ (c .before .before .before .before .before .before .before .ask-check .ensures)
+    (c .before .before .before .before .before .if1 .left) in
     let p = ask-passed job (now (a .table)) (now (a .form)) ok in
-    let flags = c .before .fill-finish .ensures (jobOf job) (c .before .before .before .before .final-states .ensures) in
-    let flag =
-    initial-flag
-    job
-    (now (a .table))
-    (now (a .form))
-    (c .before .fill-finish .last .1 .1 .1 .0)
-    (c .field-of .result)
-    (p .job-accepted)
-    flags
-    (c .field-of .ensures) in
-    ask-answered job (now (a .table)) (now (a .form)) _ ok (ap (λ k. eqb k 1) flag ∙ flag-is _)
+    let finish = c .before .fill-finish .last .1 .1 .1 .0 in
+    let flags =
+    job-flags job (now (a .table)) (now (a .form)) finish (c .before .before .before .before .final-states .result)
+    (c .before .before .before .before .final-states .ensures) (c .before .fill-finish .ensures) in
+    ask-answered job (now (a .table)) (now (a .form)) _ ok
+    (initial-flag job (now (a .table)) (now (a .form)) finish (c .field-of .result) (p .job-accepted) flags
+    (c .field-of .ensures ∙ sym (job-initial job)))
 
 pub ask-spec : {M : Type 1} → statement M
 ask-spec =

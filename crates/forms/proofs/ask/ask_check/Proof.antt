@@ -12,12 +12,16 @@ returns c = sym (ask-short _ _ _ (c .if1 .taken))
 
 returns-2 : tie.Need-returns-2
 returns-2 c =
-    sym (ask-job _ _ _ _ (search needs) (at-full-limits true _ (c .before .before .before .full-limits .ensures) (c .before .before .check .ensures)) (c .if2 .taken))
+    sym (ask-job _ _ _ _ (search needs)
+    (at-full-limits true _ (c .before .before .before .full-limits .ensures) (c .before .before .check .ensures))
+    (c .if2 .taken))
 
 returns-3 : tie.Need-returns-3
 returns-3 c =
     c .form-check .ensures
-    ∙ sym (ask-form _ _ _ _ (search needs) (at-full-limits true _ (c .before .before .before .before .full-limits .ensures) (c .before .before .before .check .ensures)) (c .before .if2 .left))
+    ∙ sym (ask-form _ _ _ _ (search needs)
+    (at-full-limits true _ (c .before .before .before .before .full-limits .ensures)
+    (c .before .before .before .check .ensures)) (c .before .if2 .left))
 
 pub ask-check-spec : {M : Type 1} → statement M
 ask-check-spec =

@@ -1,9 +1,12 @@
 -- `forms::ask::form_check` meets its contract. The loop's invariant: the symbols passed fit. Assumes nothing.
-use mathlib.Core.Path.{sym}
-use Prim.Native.Nat.{_≤_, _-_}
+use mathlib.Core.Path.{_≡_, sym, _∙_}
+use mathlib.Core.Bool.{Bool, true, false, not}
+use Prim.Native.Nat.{ℕ, _≤_, _<_, _-_}
 use native.Mathlib.Omega.{arith}
 use borrow.Author.Count.{below-more}
 use borrow.Author.Needs.{needs}
+use borrow.Author.Tests.{ltb-true, ltb-false, not-true, not-false}
+use lib.Dec.{ltb}
 use lib.ListN.{length}
 use Rattle.forms.proofs.FormChecks.{FitBefore, form-too-long, form-over, form-fits}
 use Rattle.forms.proofs.ask.form_check.Statement.{statement}
@@ -15,27 +18,34 @@ Inv-loop form i₀ i = (i ≤ length form) × FitBefore form i
 abbrev μ-loop : tie.MeasureT-loop
 μ-loop form i₀ i = length form - i
 
+-- what the answer on a byte says of it
+module _ (x : ℕ) (b : Bool) (is : b ≡ ltb x 64) where
+  over : not b ≡ true → 63 < x
+  over t = let l = ltb-false x 64 (sym is ∙ not-true b t) in omega arith
+
+  fits : not b ≡ false → x ≤ 63
+  fits t = let l = ltb-true x 64 (sym is ∙ not-false b t) in omega arith
+
 returns : tie.Need-returns Inv-loop μ-loop
 returns c = sym (form-too-long _ (c .if1 .taken))
 
 loop-holds : tie.Need-loop-holds Inv-loop μ-loop
 loop-holds c = (search needs, λ k h. absurd (omega arith))
 
-shared-slice-read-if2 : tie.Need-shared-slice-read-if2 Inv-loop μ-loop
-shared-slice-read-if2 c = search needs
-
 returns-2 : tie.Need-returns-2 Inv-loop μ-loop
 returns-2 c =
-    sym (form-over _ _ (search needs) (c .before .before .before .loop .inv .1) (search needs) (c .if2 .taken))
-
-add-i : tie.Need-add-i Inv-loop μ-loop
-add-i c = search needs
-
-loop-less : tie.Need-loop-less Inv-loop μ-loop
-loop-less c = search needs
+    let v = c .before in
+    sym
+    (form-over _ _ (search needs) (v .before .before .before .loop .inv .1) (search needs)
+    (over _ (v .is-symbol .result) (v .is-symbol .ensures) (c .if2 .taken)))
 
 loop-again : tie.Need-loop-again Inv-loop μ-loop
-loop-again c = (search needs, below-more _ _ (c .before .before .before .loop .inv .1) (c .if2 .left))
+loop-again c =
+    let v = c .before in (
+      search needs,
+      below-more _ _ (v .before .before .before .loop .inv .1)
+          (fits _ (v .is-symbol .result) (v .is-symbol .ensures) (c .if2 .left)),
+    )
 
 returns-3 : tie.Need-returns-3 Inv-loop μ-loop
 returns-3 c = sym (form-fits _ (search needs) (λ k h. c .before .loop .inv .1 k (omega arith)))
@@ -48,9 +58,10 @@ form-check-spec =
     μ-loop
     returns
     loop-holds
-    shared-slice-read-if2
+    (λ c. search needs)
+    (λ c κs. search needs)
     returns-2
-    add-i
-    loop-less
+    (λ c. search needs)
+    (λ c. search needs)
     loop-again
     returns-3)

@@ -10,7 +10,8 @@ returns c = explain-machine _ _ _ _ (c .before .before .machine-check .ensures) 
 
 returns-2 : tie.Need-returns-2
 returns-2 c =
-    c .form-check .ensures ∙ explain-form _ _ _ _ (c .before .before .before .machine-check .ensures) (c .before .if1 .left)
+    c .form-check .ensures ∙ explain-form _ _ _ _ (c .before .before .before .machine-check .ensures)
+    (c .before .if1 .left)
 
 pub explain-check-spec : {M : Type 1} → statement M
 explain-check-spec = tie.close (tie.spec (λ c κs. search needs) returns (λ c κs. search needs) returns-2)

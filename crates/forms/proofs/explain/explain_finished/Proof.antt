@@ -1,9 +1,10 @@
--- `forms::explain::explain_finished` meets its contract: the flag of the whole form at the initial state says whether it is accepted, and the
--- places filled then are its route. Assumes nothing.
+-- `forms::explain::explain_finished` meets its contract: the flag of the whole form at the initial state says whether
+-- it is accepted, and the places filled then are its route. Assumes nothing.
 use mathlib.Core.Path.{refl}
 use borrow.Author.Needs.{needs}
 use denote.Ref.{now}
-use Rattle.forms.proofs.ExplainAnswers.{Filled, filled, state-below, not-accepted, accepts, on-route, explained}
+use Rattle.forms.proofs.ExplainAnswers.{Filled, filled, state-below, not-accepted, may-fill, on-route}
+use Rattle.forms.proofs.ExplainAnswers.{explained}
 use Rattle.forms.proofs.explain.explain_finished.Statement.{statement}
 use Rattle.forms.proofs.explain.explain_finished.Tie as tie
 
@@ -42,14 +43,16 @@ fill-route-requires : tie.Need-fill-route-requires
 fill-route-requires c κs =
     let e = c .before .before .before in
     let f = flags-filled (e .before) in
-    (called (e .before) .pre .0 .long, called (e .before) .pre .1, state-below f, refl, (_, accepts f (e .if1 .left)))
+    let some = e .if1 .left in
+    let p = called (e .before) .pre in
+    ((p .0 .listable .long, p .1, state-below f, refl), may-fill f some)
 
 list-accepted-requires : tie.Need-list-accepted-requires
 list-accepted-requires c κs =
     let r = c .before .before .before in
     let e = r .before .before .before .before in
     let f = flags-filled (e .before) in
-    (called (e .before) .pre, on-route f (e .if1 .left) _ (r .fill-route .ensures _ (accepts f (e .if1 .left))))
+    (called (e .before) .pre, on-route f (e .if1 .left) _ (r .fill-route .ensures))
 
 returns-2 : tie.Need-returns-2
 returns-2 c =

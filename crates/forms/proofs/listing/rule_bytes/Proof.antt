@@ -1,29 +1,41 @@
 -- The kind decides, as in the definition of a rule by its key. Assumes nothing.
+use mathlib.Core.Path.{_≡_, sym, _∙_, ap}
 use borrow.Author.Tests.{eq-eqb, ne-eqb}
-use Rattle.job.specs.Keys.{ruleOfKey}
 use borrow.Author.Needs.{needs}
+use Rattle.job.specs.Format.{byteE, byteU}
+use Rattle.job.specs.Inside.Keys.{keyKind, ruleOfKey}
 use Rattle.forms.proofs.listing.rule_bytes.Statement.{statement}
 use Rattle.forms.proofs.listing.rule_bytes.Tie as tie
-use Rattle.forms.proofs.listing.rule_bytes.Reads as reads
-use Rattle.forms.proofs.listing.rule_bytes.Lts as lts
+
+-- the kind that was read is that of the key
+kind : (c : tie.After-unpack) → c .unpack .result .kind ≡ keyKind (c .before .args .key)
+kind c = ap (λ r. r .kind) (c .unpack .ensures)
 
 returns : tie.Need-returns
 unfolding ruleOfKey
-returns c = rw (eq-eqb _ 69 (c .if1 .taken))
-
-cast-second : tie.Need-cast-second
-cast-second c = search needs
+returns c = rw (eq-eqb _ byteE (sym (kind (c .before .before)) ∙ c .if1 .taken))
 
 returns-2 : tie.Need-returns-2
 unfolding ruleOfKey
-returns-2 c = rw (ne-eqb _ 69 (c .before .if1 .left), eq-eqb _ 85 (c .if2 .taken))
-
-cast-third : tie.Need-cast-third
-cast-third c = search needs
+returns-2 c =
+    let e = c .before .before in
+    let u = e .before .before in
+    rw (
+      ne-eqb _ byteE (λ k. e .if1 .left (kind u ∙ k)),
+      eq-eqb _ byteU (sym (kind u) ∙ c .if2 .taken),
+      u .unpack .ensures,
+    )
 
 returns-3 : tie.Need-returns-3
 unfolding ruleOfKey
-returns-3 c = rw (ne-eqb _ 69 (c .before .if1 .left), ne-eqb _ 85 (c .if2 .left))
+returns-3 c =
+    let e = c .before .before in
+    let u = e .before .before in
+    rw (
+      ne-eqb _ byteE (λ k. e .if1 .left (kind u ∙ k)),
+      ne-eqb _ byteU (λ k. c .if2 .left (kind u ∙ k)),
+      u .unpack .ensures,
+    )
 
 pub rule-bytes-spec : {M : Type 1} → statement M
-rule-bytes-spec = tie.close (tie.spec returns cast-second returns-2 cast-third returns-3)
+rule-bytes-spec = tie.close (tie.spec (λ c κs. search needs) returns returns-2 returns-3)

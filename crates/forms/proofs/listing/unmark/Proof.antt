@@ -6,7 +6,7 @@ use lib.Dec.{eqb}
 use lib.ListN.{length, getD, set}
 use native.Mathlib.Omega.{arith}
 use Rattle.saturation.specs.Table.{tableSize, each}
-use Rattle.saturation.proofs.Each.{length-each}
+use Rattle.saturation.proofs.Tables.Each.{length-each}
 use Rattle.forms.proofs.Unmarking.{unmarkedTo, unmarked-none, unmarked-next}
 use borrow.Author.Needs.{needs}
 use Rattle.forms.proofs.listing.unmark.Statement.{statement}
@@ -21,25 +21,15 @@ abbrev μ-loop : tie.MeasureT-loop
 loop-holds : tie.Need-loop-holds Inv-loop μ-loop
 loop-holds c = (omega arith, unmarked-none (c .before .args .table .now))
 
-long : (c : tie.After-slice-known2 Inv-loop μ-loop) → c .before .before .loop .i < length (c .before .before .loop .table)
+same-size : (l : tie.At-loop Inv-loop μ-loop) → length (l .loop .table) ≡ length (l .before .before .args .table .now)
+same-size l =
+    ap length (l .loop .inv .1) ∙ length-each (unmarkedTo (l .loop .i)) 0 (l .before .before .args .table .now)
+
+long :
+    (c : tie.After-slice-known2 Inv-loop μ-loop) →
+    c .before .before .loop .i < length (c .before .before .loop .table)
 long c =
-    let l = c .before .before in
-    omega (arith, ap length (l .loop .inv .1), length-each (unmarkedTo (l .loop .i)) 0 (l .before .before .args .table .now), l .before .before .pre, c .before .loop-test .taken)
-
-slice-read-without-mark : tie.Need-slice-read-without-mark Inv-loop μ-loop
-slice-read-without-mark c = long c
-
-without-mark-requires : tie.Need-without-mark-requires Inv-loop μ-loop
-without-mark-requires c κs = search needs
-
-slice-write-table : tie.Need-slice-write-table Inv-loop μ-loop
-slice-write-table c = long (c .before)
-
-add-i : tie.Need-add-i Inv-loop μ-loop
-add-i c = omega arith
-
-loop-less : tie.Need-loop-less Inv-loop μ-loop
-loop-less c = omega arith
+    let l = c .before .before in omega (arith, same-size l, l .before .before .pre, c .before .loop-test .taken)
 
 loop-again : tie.Need-loop-again Inv-loop μ-loop
 loop-again c =
@@ -53,11 +43,6 @@ loop-again c =
           (c .without-mark .ensures ∙ ap (λ z. cond (eqb (getD z i 0) 3) 2 (getD z i 0)) (l .loop .inv .1)),
     )
 
-same-length : tie.Need-same-length Inv-loop μ-loop
-same-length c =
-    let l = c .before in
-    ap length (l .loop .inv .1) ∙ length-each (unmarkedTo (l .loop .i)) 0 (l .before .before .args .table .now)
-
 returns : tie.Need-returns Inv-loop μ-loop
 returns c =
     let l = c .before in
@@ -70,11 +55,11 @@ unmark-spec =
     Inv-loop
     μ-loop
     loop-holds
-    slice-read-without-mark
-    without-mark-requires
-    slice-write-table
-    add-i
-    loop-less
+    (λ c. long c)
+    (λ c κs. search needs)
+    (λ c. long (c .before))
+    (λ c. omega arith)
+    (λ c. omega arith)
     loop-again
-    same-length
+    (λ c. same-size (c .before))
     returns)

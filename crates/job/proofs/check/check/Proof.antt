@@ -18,11 +18,13 @@ module _ (limits : Limits) (needed : Bool) (job : List ℕ) where
   unfolding checkOf
   too-long h = rw (lt-ltb 16384 (length job) h)
 
-  no-whole-records : length job ≤ 16384 → (length job % 4 ≡ 0 → ⊥) → refused 1 (length job / 4) ≡ checkOf limits needed job
+  no-whole-records : length job ≤ 16384 → (length job % 4 ≡ 0 → ⊥)
+      → refused 1 (length job / 4) ≡ checkOf limits needed job
   unfolding checkOf
   no-whole-records h n = rw (le-ltb 16384 (length job) h, ne-eqb (length job % 4) 0 n)
 
-  by-the-walk : (r : Checked) → length job ≤ 16384 → length job % 4 ≡ 0 → r ≡ orElse (firstFault limits [] (recordsOf job)) (missing needed (recordsOf job))
+  by-the-walk : (r : Checked) → length job ≤ 16384 → length job % 4 ≡ 0
+      → r ≡ orElse (firstFault limits [] (recordsOf job)) (missing needed (recordsOf job))
       → r ≡ checkOf limits needed job
   unfolding checkOf
   by-the-walk r h e w = rw (le-ltb 16384 (length job) h, eq-eqb (length job % 4) 0 e) w

@@ -1,5 +1,6 @@
--- `check::check_records`. The walk's invariant: the records before i are counted, and the first refusal is that of the records from i on.
--- The search's: none of the first j records is record i. Each way on and out is a law of `Walk`. Assumes nothing.
+-- `check::check_records`. The walk's invariant: the records before i are counted, and the first refusal is that of the
+-- records from i on. The search's: none of the first j records is record i. Each way on and out is a law of `Walk`.
+-- Assumes nothing.
 use mathlib.Core.Path.{_≡_, sym, _∙_}
 use mathlib.Core.Bool.{false}
 use mathlib.Core.Logic.{⊎-elim}
@@ -11,7 +12,8 @@ use borrow.Author.Needs.{needs}
 use Rattle.job.specs.Format.{recordsOf, has}
 use Rattle.job.proofs.Records.{records-counted}
 use Rattle.job.proofs.Earlier.{none-so-far, has-at}
-use Rattle.job.proofs.Walk.{Walked, Read, walked-none, walked-on, walked-all, tally-within, by-form, by-repeat, by-order}
+use Rattle.job.proofs.Walk.{Walked, Read, walked-none, walked-on, walked-all, tally-within, by-form, by-repeat}
+use Rattle.job.proofs.Walk.{by-order}
 use Rattle.job.proofs.check.check_records.Statement.{statement}
 use Rattle.job.proofs.check.check_records.Tie as tie
 
@@ -22,21 +24,18 @@ abbrev μ-loop : tie.MeasureT-loop
 μ-loop job limits needed count seen i r form j₀ j = i - j
 
 abbrev Inv-walk : tie.InvT-walk
-Inv-walk job limits needed count seen₀ i₀ seen i = (i ≤ count) × (count ≡ length (recordsOf job)) × Walked limits (recordsOf job) i seen
+Inv-walk job limits needed count seen₀ i₀ seen i =
+    (i ≤ count) × (count ≡ length (recordsOf job)) × Walked limits (recordsOf job) i seen
 
 abbrev μ-walk : tie.MeasureT-walk
 μ-walk job limits needed count seen₀ i₀ seen i = count - i
 
-walk-holds : tie.Need-walk-holds Inv-loop μ-loop Inv-walk μ-walk
-walk-holds c = (omega arith, sym (records-counted (c .before .args .job .now)), walked-none _ _)
-
-record-at-requires : tie.Need-record-at-requires Inv-loop μ-loop Inv-walk μ-walk
-record-at-requires c κs = omega arith
-
 -- the record is read
 read : (c : tie.After-form-fault Inv-loop μ-loop Inv-walk μ-walk)
-    → Read (c .before .before .before .before .before .args .limits) (recordsOf (c .before .before .before .before .before .args .job .now))
-    (c .before .before .before .walk .i) (c .before .before .before .walk .seen) (c .before .record-at .result) (c .form-fault .result)
+    → Read (c .before .before .before .before .before .args .limits)
+    (recordsOf (c .before .before .before .before .before .args .job .now))
+    (c .before .before .before .walk .i) (c .before .before .before .walk .seen) (c .before .record-at .result)
+    (c .form-fault .result)
 read c =
     record {
       walked = c .before .before .before .walk .inv .2;
@@ -47,22 +46,17 @@ read c =
 
 -- the search is over
 none-before : (c : tie.After-loop Inv-loop μ-loop Inv-walk μ-walk)
-    → has (take (c .before .before .before .before .before .before .walk .i) (recordsOf (c .before .before .before .before .before .before .before .before .args .job .now)))
+    → has (take (c .before .before .before .before .before .before .walk .i)
+    (recordsOf (c .before .before .before .before .before .before .before .before .args .job .now)))
     (c .before .before .before .before .record-at .result) ≡ false
 none-before c =
     let d = c .before in
     let e : c .before .before .before .before .before .before .walk .i ≡ d .loop .j = omega arith in
     rw e (d .loop .inv .1)
 
-returns : tie.Need-returns Inv-loop μ-loop Inv-walk μ-walk
-returns c = by-form (read (c .before)) _ (c .if1 .taken)
-
 loop-holds : tie.Need-loop-holds Inv-loop μ-loop Inv-walk μ-walk
 unfolding has
 loop-holds c = search needs
-
-alike-requires : tie.Need-alike-requires Inv-loop μ-loop Inv-walk μ-walk
-alike-requires c κs = omega arith
 
 loop-again : tie.Need-loop-again Inv-loop μ-loop Inv-walk μ-walk
 loop-again c =
@@ -71,13 +65,15 @@ loop-again c =
     let rs = recordsOf (a .before .before .before .before .args .job .now) in
     let l : d .loop .j < length rs = omega arith in (
       omega arith,
-      rw add-one (none-so-far (a .record-at .result) rs (d .loop .j) l (d .loop .inv .1) (sym (c .before .alike .ensures) ∙ c .if2 .left)),
+      rw add-one (none-so-far (a .record-at .result) rs (d .loop .j) l (d .loop .inv .1)
+          (sym (c .before .alike .ensures) ∙ c .if2 .left)),
     )
 
 returns-2 : tie.Need-returns-2 Inv-loop μ-loop Inv-walk μ-walk
 returns-2 c =
-    let d = c .before .before in
-    by-order (read (d .before .before .before)) _ (d .before .before .if1 .left) (none-before d) (c .before .order-fault .ensures) (c .if3 .taken)
+    let d = c .before .before .before in
+    by-order (read (d .before .before .before)) _ (d .before .before .if1 .left) (none-before d)
+    (c .before .before .order-fault .ensures) (c .before .if3 .taken) (c .refuse2 .ensures)
 
 count-in-requires : tie.Need-count-in-requires Inv-loop μ-loop Inv-walk μ-walk
 count-in-requires c κs =
@@ -89,30 +85,39 @@ walk-again c =
     let d = c .before .before .before in (
       omega arith,
       c .before .before .before .before .before .before .before .before .before .walk .inv .1,
-      walked-on (read (d .before .before .before)) (d .before .before .if1 .left) (none-before d) (c .before .before .order-fault .ensures)
+      walked-on (read (d .before .before .before)) (d .before .before .if1 .left) (none-before d)
+          (c .before .before .order-fault .ensures)
           (c .before .if3 .left) (c .count-in .ensures),
     )
 
 returns-3 : tie.Need-returns-3 Inv-loop μ-loop Inv-walk μ-walk
 returns-3 c =
+    let e = c .before .before .before in
     ⊎-elim
     (λ w. absurd (omega arith))
     (λ w.
-    let b = c .before .before in
+    let b = e .before in
     let j = w .4 .j in
     let rs = recordsOf (b .before .before .args .job .now) in
     let l : j < length rs = omega arith in
+    let again : c .before .record-at2 .result ≡ w .1 .result = c .before .record-at2 .ensures ∙ sym (w .1 .ensures) in
     by-repeat
-    (read (record { before = record { before = record { before = b; walk-test = w .0 }; record-at = w .1 }; form-fault = w .2 }))
+    (read
+    (record {
+      before = record { before = record { before = b; walk-test = w .0 }; record-at = w .1 };
+      form-fault = w .2;
+    }))
     _
     (w .3 .left)
-    (has-at (w .1 .result) rs (b .walk .i) j (w .5 .taken) l (sym (w .6 .ensures) ∙ w .7 .taken)))
-    (c .before .walk-test .came)
+    (has-at (w .1 .result) rs (b .walk .i) j (w .5 .taken) l (sym (w .6 .ensures) ∙ w .7 .taken))
+    (rw again at (c .refuse3 .ensures)))
+    (e .walk-test .came)
 
 returns-4 : tie.Need-returns-4 Inv-loop μ-loop Inv-walk μ-walk
 returns-4 c =
     let d = c .before .before .before in
-    c .missing-kind .ensures ∙ walked-all (d .walk .inv .2) _ _ (d .walk .inv .1) (d .walk .inv .0) (c .before .if4 .left)
+    c .missing-kind .ensures
+    ∙ walked-all (d .walk .inv .2) _ _ (d .walk .inv .1) (d .walk .inv .0) (c .before .if4 .left)
 
 pub check-records-spec : {M : Type 1} → statement M
 check-records-spec =
@@ -122,21 +127,25 @@ check-records-spec =
     μ-loop
     Inv-walk
     μ-walk
-    walk-holds
-    record-at-requires
+    (λ c. (omega arith, sym (records-counted (c .before .args .job .now)), walked-none _ _))
+    (λ c κs. omega arith)
     (λ c κs. search needs)
-    returns
+    (λ c κs. search needs)
+    (λ c. by-form (read (c .before .before)) _ (c .before .if1 .taken) (c .refuse .ensures))
     loop-holds
-    alike-requires
+    (λ c κs. omega arith)
     (λ c. omega arith)
     (λ c. omega arith)
     loop-again
+    (λ c κs. search needs)
     (λ c κs. search needs)
     returns-2
     count-in-requires
     (λ c. omega arith)
     (λ c. omega arith)
     walk-again
+    (λ c κs. omega arith)
+    (λ c κs. search needs)
     returns-3
     (λ c κs. search needs)
     returns-4)

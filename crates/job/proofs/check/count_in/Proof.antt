@@ -8,7 +8,7 @@ use Rattle.grammar.specs.Counting.{one-if}
 use Rattle.job.specs.declared.JobRecord.{JobRecord}
 use Rattle.job.specs.declared.Tally.{Tally}
 use Rattle.job.specs.Format.{isRule, byteI, byteS}
-use Rattle.job.specs.Walk.{counted}
+use Rattle.job.specs.Inside.Walk.{counted}
 use Rattle.job.proofs.check.count_in.Statement.{statement}
 use Rattle.job.proofs.check.count_in.Tie as tie
 

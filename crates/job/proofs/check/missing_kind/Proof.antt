@@ -5,7 +5,7 @@ use Prim.Native.Nat.{ℕ}
 use borrow.Author.Tests.{eq-eqb, ne-eqb}
 use Rattle.job.specs.declared.Tally.{Tally}
 use Rattle.job.specs.Check.{refused, accepted}
-use Rattle.job.specs.Walk.{missingBy}
+use Rattle.job.specs.Inside.Walk.{missingBy}
 use Rattle.job.proofs.check.missing_kind.Statement.{statement}
 use Rattle.job.proofs.check.missing_kind.Tie as tie
 

@@ -8,7 +8,7 @@ use Rattle.job.specs.declared.JobRecord.{JobRecord}
 use Rattle.job.specs.declared.Limits.{Limits}
 use Rattle.job.specs.declared.Tally.{Tally}
 use Rattle.job.specs.Format.{isRule, byteI, byteS}
-use Rattle.job.specs.Walk.{orderFault}
+use Rattle.job.specs.Inside.Walk.{orderFault}
 use Rattle.job.proofs.check.order_fault.Statement.{statement}
 use Rattle.job.proofs.check.order_fault.Tie as tie
 
@@ -32,11 +32,13 @@ module _ (limits : Limits) (t : Tally) (r : JobRecord) where
   module _ (s : r .kind ≡ byteS → ⊥) (n : r .kind ≡ byteI → ⊥) (rule : Bool) (is : rule ≡ isRule r) where
     one-rule-more : rule ≡ true → limits .rules ≤ t .rules → 7 ≡ orderFault limits t r
     unfolding orderFault
-    one-rule-more e h = rw (ne-eqb (r .kind) byteS s, ne-eqb (r .kind) byteI n, ← is, e, le-leb (limits .rules) (t .rules) h)
+    one-rule-more e h =
+        rw (ne-eqb (r .kind) byteS s, ne-eqb (r .kind) byteI n, ← is, e, le-leb (limits .rules) (t .rules) h)
 
     rule-within : rule ≡ true → t .rules < limits .rules → 0 ≡ orderFault limits t r
     unfolding orderFault
-    rule-within e h = rw (ne-eqb (r .kind) byteS s, ne-eqb (r .kind) byteI n, ← is, e, lt-leb (limits .rules) (t .rules) h)
+    rule-within e h =
+        rw (ne-eqb (r .kind) byteS s, ne-eqb (r .kind) byteI n, ← is, e, lt-leb (limits .rules) (t .rules) h)
 
     no-rule : rule ≡ false → 0 ≡ orderFault limits t r
     unfolding orderFault

@@ -8,8 +8,7 @@ use lib.ListN.{length, getD}
 use borrow.Author.Needs.{needs}
 use borrow.Author.Tests.{eq-eqb, ne-eqb}
 use Rattle.job.specs.declared.JobRecord.{JobRecord}
-use Rattle.job.specs.Format.{recordsOf, same}
-use Rattle.job.specs.Order.{noRecord}
+use Rattle.job.specs.Format.{recordsOf, same, noRecord}
 use Rattle.job.proofs.Records.{record-of-bytes}
 use Rattle.job.proofs.format.alike.Statement.{statement}
 use Rattle.job.proofs.format.alike.Tie as tie
@@ -26,7 +25,9 @@ module _ (b : List ℕ) (i : ℕ) (r : JobRecord) (fits : 4 * i + 4 ≤ length b
 
   by-kind : getD b (4 * i + 1) 0 ≡ r .first → getD b (4 * i + 2) 0 ≡ r .second → getD b (4 * i + 3) 0 ≡ r .third
       → eqb (getD b (4 * i) 0) (r .kind) ≡ same (getD (recordsOf b) i noRecord) r
-  by-kind p q s = rw (record-of-bytes b i fits, eq-eqb _ (r .first) p, eq-eqb _ (r .second) q, eq-eqb _ (r .third) s) (simp and-true)
+  by-kind p q s =
+      rw (record-of-bytes b i fits, eq-eqb _ (r .first) p, eq-eqb _ (r .second) q, eq-eqb _ (r .third) s)
+      (simp and-true)
 
 ruleset ways = (second-differs, third-differs, first-differs, by-kind)
 

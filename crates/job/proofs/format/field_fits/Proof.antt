@@ -7,8 +7,7 @@ use Rattle.job.proofs.format.field_fits.Tie as tie
 
 returns : tie.Need-returns
 returns c =
-    let a = c .before .before .args in
-    c .in-class .ensures ∙ ap (λ k. inClass (a .limits) k (a .value)) (c .before .field-class .ensures)
+    c .in-class .ensures ∙ ap (λ k. inClass k (c .before .before .args .value)) (c .before .field-class .ensures)
 
 pub field-fits-spec : {M : Type 1} → statement M
 field-fits-spec = tie.close (tie.spec (λ c κs. search needs) (λ c κs. search needs) returns)

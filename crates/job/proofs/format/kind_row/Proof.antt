@@ -1,29 +1,9 @@
--- `format::kind_row` gives the row of a kind byte: each arm has its byte, and the last arm none of the seven. Assumes nothing.
+-- `format::kind_row` gives the row of a kind byte: each arm has its byte, and the last arm none of the seven. Assumes
+-- nothing.
 use borrow.Author.Tests.{ne-eqb}
 use Rattle.job.specs.Format.{byteE, byteU, byteP, byteT, byteI, byteF, byteS}
 use Rattle.job.proofs.format.kind_row.Statement.{statement}
 use Rattle.job.proofs.format.kind_row.Tie as tie
-
-returns : tie.Need-returns
-returns c = rw (c .match .keys1)
-
-returns-2 : tie.Need-returns-2
-returns-2 c = rw (c .match .keys2)
-
-returns-3 : tie.Need-returns-3
-returns-3 c = rw (c .match .keys3)
-
-returns-4 : tie.Need-returns-4
-returns-4 c = rw (c .match .keys4)
-
-returns-5 : tie.Need-returns-5
-returns-5 c = rw (c .match .keys5)
-
-returns-6 : tie.Need-returns-6
-returns-6 c = rw (c .match .keys6)
-
-returns-7 : tie.Need-returns-7
-returns-7 c = rw (c .match .keys7)
 
 returns-8 : tie.Need-returns-8
 returns-8 c =
@@ -41,4 +21,12 @@ returns-8 c =
 pub kind-row-spec : {M : Type 1} → statement M
 kind-row-spec =
     tie.close
-    (tie.spec returns returns-2 returns-3 returns-4 returns-5 returns-6 returns-7 returns-8)
+    (tie.spec
+    (λ c. rw (c .match .keys1))
+    (λ c. rw (c .match .keys2))
+    (λ c. rw (c .match .keys3))
+    (λ c. rw (c .match .keys4))
+    (λ c. rw (c .match .keys5))
+    (λ c. rw (c .match .keys6))
+    (λ c. rw (c .match .keys7))
+    returns-8)

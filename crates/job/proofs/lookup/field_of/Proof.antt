@@ -1,4 +1,5 @@
--- `lookup::field_of`. The invariant: no record before i has the kind, so the records from i on decide. Assumes nothing.
+-- `lookup::field_of`. The invariant: no record before i has the kind, so the records from i on decide. Assumes
+-- nothing.
 use mathlib.Core.Path.{_≡_, sym, _∙_}
 use mathlib.Core.List.{List}
 use Prim.Native.Nat.{ℕ, _+_, _-_, _≤_, _<_}
@@ -9,20 +10,21 @@ use lib.Seq.{drop-cons}
 use borrow.Author.Needs.{needs}
 use borrow.Author.Tests.{eq-eqb, ne-eqb}
 use Rattle.job.specs.declared.JobRecord.{JobRecord}
-use Rattle.job.specs.Format.{recordsOf}
+use Rattle.job.specs.Format.{recordsOf, noRecord}
 use Rattle.job.specs.Job.{fieldOf}
-use Rattle.job.specs.Order.{noRecord}
 use Rattle.job.proofs.Records.{records-counted}
 use Rattle.job.proofs.lookup.field_of.Statement.{statement}
 use Rattle.job.proofs.lookup.field_of.Tie as tie
 
 abbrev Inv-loop : tie.InvT-loop
-Inv-loop job kind count i₀ i = (count ≡ length (recordsOf job)) × (fieldOf kind (recordsOf job) ≡ fieldOf kind (drop i (recordsOf job)))
+Inv-loop job kind count i₀ i =
+    (count ≡ length (recordsOf job)) × (fieldOf kind (recordsOf job) ≡ fieldOf kind (drop i (recordsOf job)))
 
 abbrev μ-loop : tie.MeasureT-loop
 μ-loop job kind count i₀ i = count - i
 
-module _ (k : ℕ) (rs : List JobRecord) (count i : ℕ) (all : count ≡ length rs) (inv : fieldOf k rs ≡ fieldOf k (drop i rs)) where
+module _ (k : ℕ) (rs : List JobRecord) (count i : ℕ) (all : count ≡ length rs)
+    (inv : fieldOf k rs ≡ fieldOf k (drop i rs)) where
   module _ (r : JobRecord) (h : i < count) (at : r ≡ getD rs i noRecord) where
     found : r .kind ≡ k → r .first ≡ fieldOf k rs
     unfolding fieldOf
@@ -30,14 +32,13 @@ module _ (k : ℕ) (rs : List JobRecord) (count i : ℕ) (all : count ≡ length
 
     other : (r .kind ≡ k → ⊥) → fieldOf k rs ≡ fieldOf k (drop (i + 1) rs)
     unfolding fieldOf
-    other n = let l : i < length rs = omega arith in inv ∙ rw (drop-cons rs i noRecord l, ← at, ne-eqb (r .kind) k n, add-one)
+    other n =
+        let l : i < length rs = omega arith in
+        inv ∙ rw (drop-cons rs i noRecord l, ← at, ne-eqb (r .kind) k n, add-one)
 
   none : count ≤ i → 0 ≡ fieldOf k rs
   unfolding fieldOf
   none h = let l : length rs ≤ i = omega arith in rw (inv, drop-of-length-le rs l)
-
-loop-again : tie.Need-loop-again Inv-loop μ-loop
-loop-again c = (c .before .before .before .before .loop .inv .0, search other)
 
 pub field-of-spec : {M : Type 1} → statement M
 field-of-spec =
@@ -50,5 +51,5 @@ field-of-spec =
     (λ c. search found)
     (λ c. omega arith)
     (λ c. omega arith)
-    loop-again
+    (λ c. (c .before .before .before .before .loop .inv .0, search other))
     (λ c. search none))

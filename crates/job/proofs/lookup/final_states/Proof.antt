@@ -25,15 +25,13 @@ Inv-loop job flags₀ q₀ flags q = (length flags ≡ 32) × (q ≤ 32) × ((k 
 abbrev μ-loop : tie.MeasureT-loop
 μ-loop job flags₀ q₀ flags q = 32 - q
 
-marked : (rs : List JobRecord) (flags : List ℕ) (q v : ℕ) (ok : Bool) → q < length flags → ok ≡ has rs (finalRecord q) → v ≡ one-if ok
+marked : (rs : List JobRecord) (flags : List ℕ) (q v : ℕ) (ok : Bool) → q < length flags → ok ≡ has rs (finalRecord q)
+    → v ≡ one-if ok
     → ((k : ℕ) → k < q → Right rs flags k) → (k : ℕ) → k < q + 1 → Right rs (set flags q v) k
 marked rs flags q v ok h e f inv =
     below-more (Right rs (set flags q v)) q
     (λ k l. getD-set-other flags q k v 0 (λ s. omega arith) ∙ inv k l)
     (getD-set-same flags q v 0 h ∙ f ∙ ap one-if e)
-
-loop-holds : tie.Need-loop-holds Inv-loop μ-loop
-loop-holds c = (refl, omega arith, below-none _)
 
 loop-again : tie.Need-loop-again Inv-loop μ-loop
 loop-again c =
@@ -41,7 +39,8 @@ loop-again c =
     let h : d .loop .q < length (d .loop .flags) = omega arith in (
       simp length-set (d .loop .inv .0),
       omega arith,
-      marked _ (d .loop .flags) (d .loop .q) (c .one-if .result) (c .before .has-record .result) h (c .before .has-record .ensures) (c .one-if .ensures)
+      marked _ (d .loop .flags) (d .loop .q) (c .one-if .result) (c .before .has-record .result) h
+          (c .before .has-record .ensures) (c .one-if .ensures)
           (d .loop .inv .2),
     )
 
@@ -55,7 +54,7 @@ final-states-spec =
     (tie.spec
     Inv-loop
     μ-loop
-    loop-holds
+    (λ c. (refl, omega arith, below-none _))
     (λ c κs. search needs)
     (λ c κs. search needs)
     (λ c. omega arith)

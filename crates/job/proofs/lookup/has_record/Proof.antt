@@ -8,8 +8,7 @@ use native.Mathlib.Omega.{arith}
 use lib.ListN.{length, getD, take}
 use lib.Seq.{take-all, take-length}
 use Rattle.job.specs.declared.JobRecord.{JobRecord}
-use Rattle.job.specs.Format.{recordsOf, same, has}
-use Rattle.job.specs.Order.{noRecord}
+use Rattle.job.specs.Format.{recordsOf, same, has, noRecord}
 use Rattle.job.proofs.Records.{records-counted}
 use Rattle.job.proofs.Earlier.{none-so-far, has-at}
 use Rattle.job.proofs.lookup.has_record.Statement.{statement}
@@ -38,9 +37,6 @@ loop-holds : tie.Need-loop-holds Inv-loop μ-loop
 unfolding has
 loop-holds c = (sym (records-counted (c .before .args .job .now)), refl)
 
-loop-again : tie.Need-loop-again Inv-loop μ-loop
-loop-again c = (c .before .before .before .loop .inv .0, search other)
-
 pub has-record-spec : {M : Type 1} → statement M
 has-record-spec =
     tie.close
@@ -52,5 +48,5 @@ has-record-spec =
     (λ c. search found)
     (λ c. omega arith)
     (λ c. omega arith)
-    loop-again
+    (λ c. (c .before .before .before .loop .inv .0, search other))
     (λ c. search none))

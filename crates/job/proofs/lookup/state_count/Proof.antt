@@ -1,4 +1,5 @@
--- `lookup::state_count`. The invariant: the number of states is the larger of what was met and what the records from i on name. Assumes nothing.
+-- `lookup::state_count`. The invariant: the number of states is the larger of what was met and what the records from i
+-- on name. Assumes nothing.
 use mathlib.Core.Path.{_≡_, sym}
 use mathlib.Core.List.{List}
 use Prim.Native.Nat.{ℕ, suc, _+_, _-_, _≤_, _<_, max}
@@ -8,20 +9,21 @@ use lib.ListN.{length, getD, drop, drop-of-length-le}
 use lib.Seq.{drop-cons}
 use borrow.Author.Needs.{needs}
 use Rattle.job.specs.declared.JobRecord.{JobRecord}
-use Rattle.job.specs.Format.{recordsOf}
+use Rattle.job.specs.Format.{recordsOf, noRecord}
 use Rattle.job.specs.Job.{statesIn, statesOf}
-use Rattle.job.specs.Order.{noRecord}
 use Rattle.job.proofs.Records.{records-counted}
 use Rattle.job.proofs.lookup.state_count.Statement.{statement}
 use Rattle.job.proofs.lookup.state_count.Tie as tie
 
 abbrev Inv-loop : tie.InvT-loop
-Inv-loop job count states₀ i₀ states i = (count ≡ length (recordsOf job)) × (statesOf (recordsOf job) ≡ max states (statesOf (drop i (recordsOf job))))
+Inv-loop job count states₀ i₀ states i =
+    (count ≡ length (recordsOf job)) × (statesOf (recordsOf job) ≡ max states (statesOf (drop i (recordsOf job))))
 
 abbrev μ-loop : tie.MeasureT-loop
 μ-loop job count states₀ i₀ states i = count - i
 
-module _ (rs : List JobRecord) (count i states : ℕ) (all : count ≡ length rs) (inv : statesOf rs ≡ max states (statesOf (drop i rs))) where
+module _ (rs : List JobRecord) (count i states : ℕ) (all : count ≡ length rs)
+    (inv : statesOf rs ≡ max states (statesOf (drop i rs))) where
   one-more : (r : JobRecord) (n m : ℕ) → i < count → r ≡ getD rs i noRecord → n ≡ statesIn r → m ≡ max states n
       → statesOf rs ≡ max m (statesOf (drop (i + 1) rs))
   unfolding statesOf
@@ -34,23 +36,17 @@ module _ (rs : List JobRecord) (count i states : ℕ) (all : count ≡ length rs
   unfolding statesOf
   no-more h = let l : length rs ≤ i = omega arith in rw (inv, drop-of-length-le rs l) (omega arith)
 
-loop-holds : tie.Need-loop-holds Inv-loop μ-loop
-loop-holds c = (sym (records-counted (c .before .args .job .now)), omega arith)
-
-loop-again : tie.Need-loop-again Inv-loop μ-loop
-loop-again c = (c .before .before .before .before .loop .inv .0, search one-more)
-
 pub state-count-spec : {M : Type 1} → statement M
 state-count-spec =
     tie.close
     (tie.spec
     Inv-loop
     μ-loop
-    loop-holds
+    (λ c. (sym (records-counted (c .before .args .job .now)), omega arith))
     (λ c κs. omega arith)
     (λ c κs. search needs)
     (λ c κs. search needs)
     (λ c. omega arith)
     (λ c. omega arith)
-    loop-again
+    (λ c. (c .before .before .before .before .loop .inv .0, search one-more))
     (λ c. search no-more))

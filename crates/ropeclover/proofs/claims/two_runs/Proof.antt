@@ -1,5 +1,5 @@
--- `ropeclover::claims::two_runs` meets its contract: call by call, two runs with the same records stay alike, and each run counts right.
--- Assumes nothing.
+-- `ropeclover::claims::two_runs` meets its contract: call by call, two runs with the same records stay alike, and each
+-- run counts right. Assumes nothing.
 use Rattle.ropeclover.proofs.TwoRunsAlike.{two-runs}
 use Rattle.ropeclover.proofs.claims.two_runs.Statement.{statement}
 use Rattle.ropeclover.proofs.claims.two_runs.Tie as tie

@@ -9,7 +9,10 @@ use Rattle.ropeclover.proofs.exports.ropeclover_ask.Tie as tie
 returns : tie.Need-returns
 returns c =
     let r = c .before .before .before .ask .result in
-    c .write3 .ensures ∙ ap (λ k. r .number ∷ r .place ∷ k ∷ []) (c .before .one-if .ensures) ∙ ap askNumbers (c .before .before .before .ask .ensures)
+    c .write3 .ensures ∙ ap (λ k. r .number ∷ r .place ∷ k ∷ []) (c .before .one-if .ensures)
+    ∙ ap askNumbers (c .before .before .before .ask .ensures)
 
 pub ropeclover-ask-spec : {M : Type 1} → statement M
-ropeclover-ask-spec = tie.close (tie.spec (λ c κs. search needs) (λ c κs. search needs) (λ c. search needs) (λ c κs. search needs) returns)
+ropeclover-ask-spec =
+    tie.close (tie.spec (λ c κs. search needs) (λ c κs. search needs) (λ c. search needs)
+    (λ c κs. search needs) returns)

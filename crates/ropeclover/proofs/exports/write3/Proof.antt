@@ -9,4 +9,5 @@ returns : tie.Need-returns
 returns c = written (c .args .answer .now) (c .args .a ∷ c .args .b ∷ c .args .c ∷ []) (c .pre)
 
 pub write3-spec : {M : Type 1} → statement M
-write3-spec = tie.close (tie.spec (λ c. search needs) (λ c. search needs) (λ c. search needs) (λ c. search needs) returns)
+write3-spec =
+    tie.close (tie.spec (λ c. search needs) (λ c. search needs) (λ c. search needs) (λ c. search needs) returns)

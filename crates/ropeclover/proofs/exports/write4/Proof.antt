@@ -9,4 +9,6 @@ returns : tie.Need-returns
 returns c = written (c .args .answer .now) (c .args .a ∷ c .args .b ∷ c .args .c ∷ c .args .d ∷ []) (c .pre)
 
 pub write4-spec : {M : Type 1} → statement M
-write4-spec = tie.close (tie.spec (λ c. search needs) (λ c. search needs) (λ c. search needs) (λ c. search needs) (λ c. search needs) returns)
+write4-spec =
+    tie.close (tie.spec (λ c. search needs) (λ c. search needs) (λ c. search needs) (λ c. search needs)
+    (λ c. search needs) returns)

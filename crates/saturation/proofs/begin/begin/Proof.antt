@@ -1,4 +1,5 @@
--- `begin::begin` meets its contract: what the calls leave, one after the other, is the start of the job. Assumes nothing.
+-- `begin::begin` meets its contract: what the calls leave, one after the other, is the start of the job. Assumes
+-- nothing.
 use mathlib.Core.Path.{_≡_, _∙_}
 use mathlib.Core.Bool.{true}
 use mathlib.Core.List.{List, map}
@@ -7,24 +8,24 @@ use native.Mathlib.Omega.{arith}
 use lib.ListN.{length, getD, take}
 use borrow.Author.Needs.{needs}
 use Rattle.job.specs.Format.{recordsOf}
-use Rattle.job.specs.Check.{checkOf, accepted}
+use Rattle.job.specs.Accepted.{Accepted}
+use Rattle.job.specs.Clear.{cleared}
 use Rattle.job.specs.Job.{sortKey, sortedRules, statesOf, jobOf, jobOfRecords}
-use Rattle.job.specs.Order.{noRecord}
-use Rattle.job.specs.Show.{fullLimits}
+use Rattle.job.specs.Format.{noRecord}
 use Rattle.job.proofs.NoRepeat.{member-at}
-use Rattle.job.proofs.AcceptedFacts.{states-within}
-use Rattle.job.proofs.Keys.{rule-records-within, keys-of-rules, rules-of-keys}
-use Rattle.saturation.specs.Table.{Lent, tableSize, reasonsSize, each}
+use Rattle.job.proofs.AcceptedFacts.{in-range, transition-fits}
+use Rattle.job.proofs.Keys.{keys-of-rules, rules-of-keys}
+use Rattle.saturation.specs.Table.{Lent, lentOf, tableSize, reasonsSize}
 use Rattle.saturation.specs.Start.{started}
-use Rattle.saturation.specs.Parts.{ruleOfKey, lentOf, clearBelow}
-use Rattle.saturation.specs.StartParts.{TransitionFits, givingAll, loopingAll}
-use Rattle.saturation.proofs.StartDone.{transitions-fit, all-written}
+use Rattle.job.specs.Inside.Keys.{ruleOfKey}
+use Rattle.saturation.specs.Inside.StartParts.{TransitionFits, givingAll, loopingAll}
+use Rattle.saturation.proofs.Starts.StartDone.{all-written}
 use Rattle.saturation.proofs.begin.begin.Statement.{statement}
 use Rattle.saturation.proofs.begin.begin.Tie as tie
 
-module _ (job : List ℕ) (ok : checkOf fullLimits true job ≡ accepted) where
+module _ (job : List ℕ) (ok : Accepted true job) where
   fit : (i : ℕ) → i < length (recordsOf job) → TransitionFits (getD (recordsOf job) i noRecord)
-  fit i h = transitions-fit true job ok (getD (recordsOf job) i noRecord) (member-at noRecord (recordsOf job) i h)
+  fit i h = transition-fits ok (getD (recordsOf job) i noRecord) (member-at noRecord (recordsOf job) i h)
 
   module _ (s : ℕ) (counted : s ≡ statesOf (recordsOf job)) where
     states : s ≡ jobOf job .states
@@ -32,23 +33,24 @@ module _ (job : List ℕ) (ok : checkOf fullLimits true job ≡ accepted) where
     states = counted
 
     few-states : s ≤ 32
-    few-states = omega (arith, states, states-within fullLimits true job ok)
+    few-states = omega (arith, states, in-range ok .states)
 
     module _ (keys : List ℕ) (n : ℕ) (count : n ≡ length (sortedRules (recordsOf job)))
         (sorted : take n keys ≡ map sortKey (sortedRules (recordsOf job))) where
       written :
           (t rs t₁ rs₁ : List ℕ) (m₂ m₃ : Lent) → 65536 ≤ length t → 32768 ≤ length rs →
-          t₁ ≡ each (clearBelow tableSize) 0 t → rs₁ ≡ each (clearBelow reasonsSize) 0 rs →
+          t₁ ≡ cleared tableSize t → rs₁ ≡ cleared reasonsSize rs →
           m₂ ≡ givingAll (recordsOf job) (lentOf t₁ rs₁) → m₃ ≡ loopingAll s 0 (map ruleOfKey (take n keys)) m₂ →
           m₃ ≡ started (jobOf job) (lentOf t rs)
-      written t rs t₁ rs₁ m₂ m₃ long long-reasons cleared cleared-reasons given looped =
+      written t rs t₁ rs₁ m₂ m₃ long long-reasons clear clear-reasons given looped =
           looped
-          ∙ (λ i. loopingAll (states i) 0 (rules-of-keys fullLimits true job ok keys n count sorted i) (given i))
-          ∙ (λ i. loopingAll (jobOf job .states) 0 (jobOf job .rules) (givingAll (recordsOf job) (lentOf (cleared i) (cleared-reasons i))))
-          ∙ all-written true job ok (lentOf t rs) long long-reasons
+          ∙ (λ i. loopingAll (states i) 0 (rules-of-keys ok keys n count sorted i) (given i))
+          ∙ (λ i. loopingAll (jobOf job .states) 0 (jobOf job .rules)
+          (givingAll (recordsOf job) (lentOf (clear i) (clear-reasons i))))
+          ∙ all-written job ok (lentOf t rs) long long-reasons
 
 sorted-rules-requires : tie.Need-sorted-rules-requires
-sorted-rules-requires c κs = rule-records-within fullLimits true _ (c .before .before .before .before .before .pre .2)
+sorted-rules-requires c κs = c .before .before .before .before .before .pre .2 .few-rules
 
 give-all-requires : tie.Need-give-all-requires
 give-all-requires c κs =
@@ -70,7 +72,7 @@ loops-requires c κs =
         omega (arith, r .clear-reasons .kept, g .give-all .kept),
         few-states _ (start .pre .2) _ (n .state-count .ensures),
       ),
-      keys-of-rules fullLimits true _ (start .pre .2) _ _ (s .sorted-rules .ensures .0) (s .sorted-rules .ensures .1),
+      keys-of-rules (start .pre .2) _ _ (s .sorted-rules .ensures .0) (s .sorted-rules .ensures .1),
     )
 
 same-length : tie.Need-same-length
@@ -99,7 +101,8 @@ returns c =
     let ok = start .pre .2 in
     let k = s .sorted-rules .ensures in (
       states _ ok _ (n .state-count .ensures),
-      written _ ok _ (n .state-count .ensures) _ _ (k .0) (k .1) _ _ _ _ _ _ (start .pre .0) (start .pre .1) (t .clear-table .ensures)
+      written _ ok _ (n .state-count .ensures) _ _ (k .0) (k .1) _ _ _ _ _ _ (start .pre .0) (start .pre .1)
+          (t .clear-table .ensures)
           (r .clear-reasons .ensures) (g .give-all .ensures) (l .loops .ensures),
     )
 

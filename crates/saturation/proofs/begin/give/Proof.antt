@@ -1,15 +1,15 @@
 -- `begin::give` meets its contract: the writes are those of `giving`, whose tests the branches make. Assumes nothing.
-use mathlib.Core.Path.{_≡_}
-use Prim.Native.Nat.{_≤_, _<_}
+use mathlib.Core.Path.{_≡_, sym, _∙_}
+use mathlib.Core.Bool.{Bool, true, false, not}
 use native.Mathlib.Omega.{arith}
+use lib.Dec.{ltb}
 use lib.ListN.{set}
 use borrow.Author.Needs.{needs}
-use borrow.Author.Tests.{eq-eqb, ne-eqb, lt-ltb, le-ltb}
+use borrow.Author.Tests.{eq-eqb, ne-eqb, ltb-true, not-true, not-false}
 use Rattle.job.specs.declared.JobRecord.{JobRecord}
 use Rattle.job.specs.Format.{byteT}
-use Rattle.saturation.specs.Table.{Lent, place, reasonPlace, givenReason}
-use Rattle.saturation.specs.Parts.{lentOf}
-use Rattle.saturation.specs.StartParts.{giving}
+use Rattle.saturation.specs.Table.{Lent, lentOf, place, reasonPlace, givenReason}
+use Rattle.saturation.specs.Inside.StartParts.{giving}
 use Rattle.saturation.proofs.begin.give.Statement.{statement}
 use Rattle.saturation.proofs.begin.give.Tie as tie
 
@@ -18,36 +18,53 @@ module _ (r : JobRecord) (m : Lent) where
   unfolding giving
   other d = rw (ne-eqb (r .kind) byteT d)
 
-  terminal : r .kind ≡ byteT → 32 ≤ r .second → lentOf (set (m .table) (place (r .first) (r .second) (r .third)) 1) (m .reasons) ≡ giving r m
-  unfolding giving
-  terminal e l = rw (eq-eqb (r .kind) byteT e, le-ltb (r .second) 32 l)
+  module _ (e : r .kind ≡ byteT) (v : Bool) (is : v ≡ ltb (r .second) 32) where
+    terminal :
+        not v ≡ true → lentOf (set (m .table) (place (r .first) (r .second) (r .third)) 1) (m .reasons) ≡ giving r m
+    unfolding giving
+    terminal t = rw (eq-eqb (r .kind) byteT e, ← is, not-true v t)
 
-  variable :
-      r .kind ≡ byteT → r .second < 32 →
-      lentOf (set (m .table) (place (r .first) (r .second) (r .third)) 1)
-      (set (m .reasons) (reasonPlace (r .first) (r .second) (r .third)) givenReason)
-      ≡ giving r m
-  unfolding giving
-  variable e l = rw (eq-eqb (r .kind) byteT e, lt-ltb (r .second) 32 l)
+    variable :
+        not v ≡ false →
+        lentOf (set (m .table) (place (r .first) (r .second) (r .third)) 1)
+        (set (m .reasons) (reasonPlace (r .first) (r .second) (r .third)) givenReason)
+        ≡ giving r m
+    unfolding giving
+    variable t = rw (eq-eqb (r .kind) byteT e, ← is, not-false v t)
 
 returns : tie.Need-returns
 returns c = other _ _ (c .if1 .taken)
 
-slice-write-table : tie.Need-slice-write-table
-slice-write-table c =
-    let s = c .before .before .before .before .before in
-    omega (arith, s .pre .2 (c .before .before .before .if1 .left))
+make-pending-requires : tie.Need-make-pending-requires
+make-pending-requires c κs =
+    let e = c .before .before .before .before in
+    let s = e .before .before .before .before in
+    omega (arith, s .pre .1 (e .if1 .left), s .pre .0)
 
 returns-2 : tie.Need-returns-2
-returns-2 c = terminal _ _ (c .before .before .before .before .if1 .left) (c .if2 .taken)
+returns-2 c =
+    let v = c .before in
+    let m = v .before .before .before in
+    rw (m .make-pending .ensures) (terminal _ _ (m .before .before .before .before .before .if1 .left)
+    (v .is-variable .result) (v .is-variable .ensures) (c .if2 .taken))
 
 slice-write-reasons : tie.Need-slice-write-reasons
 slice-write-reasons c =
-    let s = c .before .before .before .before .before .before in
-    omega (arith, s .pre .2 (c .before .before .before .before .if1 .left))
+    let v = c .before in
+    let e = v .before .before .before .before .before .before .before .before in
+    let s = e .before .before .before .before in
+    let below =
+    ltb-true (s .args .given .second) 32
+    (sym (v .is-variable .ensures) ∙ not-false (v .is-variable .result) (c .if2 .left))
+    in
+    omega (arith, s .pre .1 (e .if1 .left), s .pre .0, below)
 
 returns-3 : tie.Need-returns-3
-returns-3 c = variable _ _ (c .before .before .before .before .if1 .left) (c .if2 .left)
+returns-3 c =
+    let v = c .before in
+    let m = v .before .before .before in
+    rw (m .make-pending .ensures) (variable _ _ (m .before .before .before .before .before .if1 .left)
+    (v .is-variable .result) (v .is-variable .ensures) (c .if2 .left))
 
 pub give-spec : {M : Type 1} → statement M
 give-spec =
@@ -61,7 +78,8 @@ give-spec =
     (λ c. search needs)
     (λ c. search needs)
     (λ c. search needs)
-    slice-write-table
+    make-pending-requires
+    (λ c κs. search needs)
     (λ c. search needs)
     returns-2
     (λ c. search needs)

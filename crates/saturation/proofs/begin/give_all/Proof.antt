@@ -1,18 +1,16 @@
--- `begin::give_all` meets its contract. The loop's invariant: what the records passed so far gave, and what the others are still to give, is
--- what all give. Assumes nothing.
+-- `begin::give_all` meets its contract. The loop's invariant: what the records passed so far gave, and what the others
+-- are still to give, is what all give. Assumes nothing.
 use mathlib.Core.Path.{_≡_, refl, sym}
 use mathlib.Core.List.{List}
 use Prim.Native.Nat.{ℕ, _+_, _-_, _≤_, _<_}
 use native.Mathlib.Omega.{arith}
 use lib.ListN.{length, getD}
 use Rattle.job.specs.declared.JobRecord.{JobRecord}
-use Rattle.job.specs.Format.{recordsOf}
-use Rattle.job.specs.Order.{noRecord}
+use Rattle.job.specs.Format.{recordsOf, noRecord}
 use Rattle.job.proofs.Records.{records-counted}
-use Rattle.saturation.specs.Table.{Lent}
-use Rattle.saturation.specs.Parts.{lentOf}
-use Rattle.saturation.specs.StartParts.{giving, givingAll}
-use Rattle.saturation.proofs.StartWalk.{Walked, walk-begins, walk-goes-on, walk-ends}
+use Rattle.saturation.specs.Table.{Lent, lentOf}
+use Rattle.saturation.specs.Inside.StartParts.{giving, givingAll}
+use Rattle.saturation.proofs.Starts.StartWalk.{Walked, walk-begins, walk-goes-on, walk-ends}
 use Rattle.saturation.proofs.begin.give_all.Statement.{statement}
 use Rattle.saturation.proofs.begin.give_all.Tie as tie
 
@@ -27,13 +25,15 @@ Inv-loop job table₀ reasons₀ count i₀ table reasons i =
 abbrev μ-loop : tie.MeasureT-loop
 μ-loop job table₀ reasons₀ count i₀ table reasons i = count - i
 
-module _ (rs : List JobRecord) (m m' : Lent) (count i : ℕ) (counted : count ≡ length rs) (walked : Walked all rs m m' i) where
+module _ (rs : List JobRecord) (m m' : Lent) (count i : ℕ) (counted : count ≡ length rs)
+    (walked : Walked all rs m m' i) where
   goes-on :
       (t t' : List ℕ) → i < count → (r : JobRecord) → r ≡ getD rs i noRecord → lentOf t t' ≡ giving r m' →
       length t ≡ length (m' .table) → length t' ≡ length (m' .reasons) → Walked all rs m (lentOf t t') (i + 1)
   unfolding givingAll
   goes-on t t' h r at e l l' =
-      walk-goes-on all rs m m' i walked (λ i. giving) (λ i x xs n. refl) noRecord (lentOf t t') (omega arith) (rw at at e)
+      walk-goes-on all rs m m' i walked (λ i. giving) (λ i x xs n. refl) noRecord (lentOf t t') (omega arith)
+      (rw at at e)
       (record { table = l; reasons = l' })
 
   ends : count ≤ i → m' ≡ givingAll rs m
@@ -49,8 +49,7 @@ give-requires c κs =
     let start = l .before .before .before .before in
     let long = l .loop .inv .1 .long in
     let few = l .loop .inv .0 in (
-      omega (arith, long .table),
-      omega (arith, long .reasons),
+      (omega (arith, long .table), omega (arith, long .reasons)),
       rw (c .record-at .ensures) (start .pre .1 (l .loop .i) (omega arith)),
     )
 
@@ -58,8 +57,11 @@ loop-again : tie.Need-loop-again Inv-loop μ-loop
 loop-again c =
     let one = c .before .before .before .before in
     let l = one .before .before .before .before .before in
-    let (counted, walked) = l .loop .inv in
-    (counted, goes-on _ _ _ _ _ counted walked _ _ (omega arith) _ (one .before .record-at .ensures) (one .give .ensures) (one .give .kept .0) (one .give .kept .1 .0))
+    let (counted, walked) = l .loop .inv in (
+      counted,
+      goes-on _ _ _ _ _ counted walked _ _ (omega arith) _ (one .before .record-at .ensures)
+          (one .give .ensures) (one .give .kept .0) (one .give .kept .1 .0),
+    )
 
 pub give-all-spec : {M : Type 1} → statement M
 give-all-spec =

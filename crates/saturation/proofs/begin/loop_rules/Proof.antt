@@ -1,5 +1,5 @@
--- `begin::loop_rules` meets its contract. The loop's invariant: what the rules passed so far wrote, and what the others are still to write, is what
--- all write. Assumes nothing.
+-- `begin::loop_rules` meets its contract. The loop's invariant: what the rules passed so far wrote, and what the
+-- others are still to write, is what all write. Assumes nothing.
 use mathlib.Core.Path.{_≡_, refl, _∙_, ap}
 use mathlib.Core.List.{List, map}
 use Prim.Native.Nat.{ℕ, _+_, _-_, _≤_, _<_}
@@ -8,10 +8,10 @@ use lib.ListN.{length, getD, take, length-map, List·getD-map}
 use lib.Seq.{length-take-le, getD-take}
 use borrow.Author.Needs.{needs}
 use Rattle.grammar.specs.Rule.{Rule}
-use Rattle.saturation.specs.Table.{Lent}
-use Rattle.saturation.specs.Parts.{ruleOfKey, lentOf}
-use Rattle.saturation.specs.StartParts.{loopingRule, loopingAll}
-use Rattle.saturation.proofs.StartWalk.{Walked, walk-begins, walk-goes-on, walk-ends}
+use Rattle.saturation.specs.Table.{Lent, lentOf}
+use Rattle.job.specs.Inside.Keys.{ruleOfKey}
+use Rattle.saturation.specs.Inside.StartParts.{loopingRule, loopingAll}
+use Rattle.saturation.proofs.Starts.StartWalk.{Walked, walk-begins, walk-goes-on, walk-ends}
 use Rattle.saturation.proofs.begin.loop_rules.Statement.{statement}
 use Rattle.saturation.proofs.begin.loop_rules.Tie as tie
 
@@ -40,7 +40,8 @@ module _ (states : ℕ) (keys : List ℕ) (n : ℕ) (fits : n ≤ length keys) w
         Walked (loopingAll states) (rules keys n) m (lentOf t t') (k + 1)
     unfolding loopingAll
     goes-on t t' h e l l' =
-        walk-goes-on (loopingAll states) (rules keys n) m m' k walked (loopingRule states) (λ i x xs o. refl) (ruleOfKey 0) (lentOf t t')
+        walk-goes-on (loopingAll states) (rules keys n) m m' k walked (loopingRule states) (λ i x xs o. refl)
+        (ruleOfKey 0) (lentOf t t')
         (omega (arith, rule-count))
         (rw (rule-at k h) e)
         (record { table = l; reasons = l' })
@@ -54,14 +55,15 @@ loop-all-requires c κs =
     let l = c .before .before .before .before in
     let p = l .before .before .before .before .pre in
     let long = l .loop .inv .long in
-    (omega (arith, long .table), omega (arith, long .reasons), p .0 .2, p .1 .2 _ (omega arith), omega arith)
+    ((omega (arith, long .table), omega (arith, long .reasons)), (p .0 .2, p .1 .2 _ (omega arith), omega arith))
 
 loop-again : tie.Need-loop-again Inv-loop μ-loop
 loop-again c =
     let one = c .before .before .before .before in
     let l = one .before .before .before .before .before in
     let p = l .before .before .before .before .pre in
-    goes-on _ _ _ (p .1 .1) _ _ _ (l .loop .inv) _ _ (omega arith) (one .loop-all .ensures) (one .loop-all .kept .0) (one .loop-all .kept .1 .0)
+    goes-on _ _ _ (p .1 .1) _ _ _ (l .loop .inv) _ _ (omega arith) (one .loop-all .ensures) (one .loop-all .kept .0)
+    (one .loop-all .kept .1 .0)
 
 returns : tie.Need-returns Inv-loop μ-loop
 returns c =

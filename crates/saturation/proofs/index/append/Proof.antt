@@ -1,6 +1,7 @@
--- `index::append` meets its contract: the write stands at the end of the symbol's list, which is shorter than 256. Assumes nothing.
+-- `index::append` meets its contract: the write stands at the end of the symbol's list, which is shorter than 256.
+-- Assumes nothing.
 use borrow.Author.Needs.{needs}
-use Rattle.saturation.proofs.Appending.{append-one}
+use Rattle.saturation.proofs.Indexes.Appending.{append-one}
 use Rattle.saturation.proofs.index.append.Statement.{statement}
 use Rattle.saturation.proofs.index.append.Tie as tie
 

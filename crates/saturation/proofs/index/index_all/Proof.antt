@@ -1,20 +1,21 @@
--- `index::index_all` meets its contract. The loop's invariant: the rules passed so far are indexed, each list with at most as many ranks.
--- Assumes nothing.
+-- `index::index_all` meets its contract. The loop's invariant: the rules passed so far are indexed, each list with at
+-- most as many ranks. Assumes nothing.
 use mathlib.Core.Path.{_≡_, refl}
 use mathlib.Core.List.{map}
 use Prim.Native.Nat.{_-_, _≤_}
 use native.Mathlib.Omega.{arith}
 use lib.ListN.{length, take}
 use borrow.Author.Needs.{needs}
-use Rattle.saturation.specs.Parts.{ruleOfKey, Indexed, Room}
-use Rattle.saturation.proofs.Appending.{room-after}
-use Rattle.saturation.proofs.Mentioning.{indexed-none, indexed-next}
+use Rattle.job.specs.Inside.Keys.{ruleOfKey}
+use Rattle.saturation.specs.Inside.Index.{Indexed, IndexRoom}
+use Rattle.saturation.proofs.Indexes.Appending.{room-after}
+use Rattle.saturation.proofs.Indexes.Mentioning.{indexed-none, indexed-next}
 use Rattle.saturation.proofs.index.index_all.Statement.{statement}
 use Rattle.saturation.proofs.index.index_all.Tie as tie
 
 abbrev Inv-loop : tie.InvT-loop
 Inv-loop keys n users₀ used₀ k₀ users used k =
-    (k ≤ n) × (length users ≡ length users₀) × (length used ≡ length used₀) × Room k users used
+    (k ≤ n) × (length users ≡ length users₀) × (length used ≡ length used₀) × IndexRoom k users used
     × Indexed (map ruleOfKey (take k keys)) users used
 
 abbrev μ-loop : tie.MeasureT-loop

@@ -1,4 +1,5 @@
--- `operations::machine_check` meets its contract: each way out is one of the tests that `machineCheck` makes in turn. Assumes nothing.
+-- `operations::machine_check` meets its contract: each way out is one of the tests that `machineCheck` makes in turn.
+-- Assumes nothing.
 use mathlib.Core.Path.{_∙_}
 use borrow.Author.Needs.{needs}
 use Rattle.saturation.proofs.MachineChecks.{short-table, short-reasons, long-enough}

@@ -1,4 +1,5 @@
--- `operations::start` meets its contract: a refusal leaves what is lent, and what passes the checks is begun. Assumes nothing.
+-- `operations::start` meets its contract: a refusal leaves what is lent, and what passes the checks is begun.
+-- Assumes nothing.
 use mathlib.Core.Path.{_≡_, refl}
 use mathlib.Core.List.{List}
 use Prim.Native.Nat.{ℕ}
@@ -14,7 +15,9 @@ use Rattle.saturation.proofs.operations.start.Statement.{statement}
 use Rattle.saturation.proofs.operations.start.Tie as tie
 
 module _ (job : List ℕ) (m : Lent) (c : Checked) (checked : c ≡ machineCheck job m) where
-  refuses : (c .number ≡ 0 → ⊥) → startLeaves (record { number = c .number; place = c .place; states = 0 }) m ≡ startOf job m
+  refuses :
+      (c .number ≡ 0 → ⊥) →
+      startLeaves (record { number = c .number; place = c .place; states = 0 }) m ≡ startOf job m
   unfolding startOf
   refuses d = rw (← checked, ne-eqb (c .number) 0 d)
 
@@ -23,7 +26,8 @@ module _ (job : List ℕ) (m : Lent) (c : Checked) (checked : c ≡ machineCheck
       startLeaves (record { number = 0; place = 0; states = s }) m' ≡ startOf job m
   unfolding startOf
   starts e s m' counted written =
-      rw (← checked, eq-eqb (c .number) 0 e) (λ i. startLeaves (record { number = 0; place = 0; states = counted i }) (written i))
+      rw (← checked, eq-eqb (c .number) 0 e)
+      (λ i. startLeaves (record { number = 0; place = 0; states = counted i }) (written i))
 
 begin-requires : tie.Need-begin-requires
 begin-requires c κs =

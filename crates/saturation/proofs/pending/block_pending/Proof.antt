@@ -1,10 +1,11 @@
--- `pending::block_pending` meets its contract. The loop's invariant: the block's rows passed so far are searched in vain. Assumes nothing.
+-- `pending::block_pending` meets its contract. The loop's invariant: the block's rows passed so far are searched in
+-- vain. Assumes nothing.
 use mathlib.Core.Path.{_≡_}
 use Prim.Native.Nat.{_*_, _-_, _≤_}
 use native.Mathlib.Omega.{arith}
 use Rattle.saturation.specs.Table.{tableSize}
-use Rattle.saturation.specs.Parts.{RowsSearched}
-use Rattle.saturation.proofs.RowFlags.{rows-none, rows-next, rows-found}
+use Rattle.saturation.specs.Inside.Search.{RowsSearched}
+use Rattle.saturation.proofs.Searches.RowFlags.{rows-none, rows-next, rows-found}
 use Rattle.saturation.proofs.pending.block_pending.Statement.{statement}
 use Rattle.saturation.proofs.pending.block_pending.Tie as tie
 

@@ -1,6 +1,7 @@
--- `pending::flagged_block_pending` meets its contract: each way out is a search of one block, skipped, found or cleared. Assumes nothing.
+-- `pending::flagged_block_pending` meets its contract: each way out is a search of one block, skipped, found or
+-- cleared. Assumes nothing.
 use borrow.Author.Needs.{needs}
-use Rattle.saturation.proofs.RowFlags.{flags-kept, flags-cleared, block-skipped, block-place}
+use Rattle.saturation.proofs.Searches.RowFlags.{flags-kept, flags-cleared, block-skipped, block-place}
 use Rattle.saturation.proofs.pending.flagged_block_pending.Statement.{statement}
 use Rattle.saturation.proofs.pending.flagged_block_pending.Tie as tie
 

@@ -1,6 +1,7 @@
--- `pending::flagged_row_pending` meets its contract: each way out is a search of one row, skipped, found or cleared. Assumes nothing.
+-- `pending::flagged_row_pending` meets its contract: each way out is a search of one row, skipped, found or cleared.
+-- Assumes nothing.
 use borrow.Author.Needs.{needs}
-use Rattle.saturation.proofs.RowFlags.{row-skipped, row-found, row-cleared}
+use Rattle.saturation.proofs.Searches.RowFlags.{row-skipped, row-found, row-cleared}
 use Rattle.saturation.proofs.pending.flagged_row_pending.Statement.{statement}
 use Rattle.saturation.proofs.pending.flagged_row_pending.Tie as tie
 

@@ -1,11 +1,12 @@
--- `pending::next_pending` meets its contract. The loop's invariant: the blocks passed so far are searched in vain, and the flags are true.
--- Assumes nothing.
+-- `pending::next_pending` meets its contract. The loop's invariant: the blocks passed so far are searched in vain, and
+-- the flags are true. Assumes nothing.
 use mathlib.Core.Path.{_≡_}
 use Prim.Native.Nat.{_*_, _-_, _≤_}
 use native.Mathlib.Omega.{arith}
 use Rattle.saturation.specs.Table.{tableSize}
-use Rattle.saturation.specs.Parts.{Flags, LowestIn}
-use Rattle.saturation.proofs.Searching.{lowest-none, lowest-next, lowest-less, lowest-found, lowest-of-table}
+use Rattle.saturation.specs.Inside.Search.{Flags, LowestIn}
+use Rattle.saturation.proofs.Searches.Searching.{lowest-none, lowest-next, lowest-less, lowest-found}
+use Rattle.saturation.proofs.Searches.Searching.{lowest-of-table}
 use Rattle.saturation.proofs.pending.next_pending.Statement.{statement}
 use Rattle.saturation.proofs.pending.next_pending.Tie as tie
 
@@ -26,8 +27,9 @@ returns : tie.Need-returns Inv-loop μ-loop
 returns c =
     let h = c .before .before .before .before .before .loop .inv in
     let s = c .before .flagged-block-pending in (
-      lowest-of-table _ _ (omega arith)
-          (lowest-found _ _ _ _ _ (omega arith) (c .if1 .taken) (lowest-next _ _ _ _ _ _ (omega arith) (omega arith) (h .1) (s .ensures .0))),
+      lowest-of-table _ _
+          (lowest-found _ _ _ _ _ (omega arith) (c .if1 .taken)
+          (lowest-next _ _ _ _ _ _ (omega arith) (omega arith) (h .1) (s .ensures .0))),
       s .ensures .1,
     )
 
@@ -40,7 +42,7 @@ loop-again c =
 
 returns-2 : tie.Need-returns-2 Inv-loop μ-loop
 returns-2 c =
-    (lowest-of-table _ _ (omega arith) (lowest-less _ _ _ _ (omega arith) (c .before .loop .inv .1)), c .before .loop .inv .2)
+    (lowest-of-table _ _ (lowest-less _ _ _ _ (omega arith) (c .before .loop .inv .1)), c .before .loop .inv .2)
 
 pub next-pending-spec : {M : Type 1} → statement M
 next-pending-spec =

@@ -1,11 +1,13 @@
--- `pending::row_pending` meets its contract. The loop's invariant: the row's places passed so far are searched in vain. Assumes nothing.
+-- `pending::row_pending` meets its contract. The loop's invariant: the row's places passed so far are searched in
+-- vain. Assumes nothing.
+use mathlib.Core.Path.{sym, _∙_}
 use Prim.Native.Nat.{_+_, _*_, _-_, _≤_}
 use native.Mathlib.Nat.{add-assoc}
 use native.Mathlib.Omega.{arith}
-use borrow.Author.Tests.{eq-eqb, ne-eqb}
+use borrow.Author.Needs.{needs}
 use Rattle.saturation.specs.Table.{tableSize}
-use Rattle.saturation.specs.Parts.{LowestIn}
-use Rattle.saturation.proofs.Searching.{lowest-none, lowest-pass, lowest-stop, lowest-less}
+use Rattle.saturation.specs.Inside.Search.{LowestIn}
+use Rattle.saturation.proofs.Searches.Searching.{lowest-none, lowest-pass, lowest-stop, lowest-less}
 use Rattle.saturation.proofs.pending.row_pending.Statement.{statement}
 use Rattle.saturation.proofs.pending.row_pending.Tie as tie
 
@@ -20,12 +22,15 @@ loop-holds c = (omega arith, lowest-none _ _ _ (omega arith))
 
 returns : tie.Need-returns Inv-loop μ-loop
 returns c =
-    lowest-stop _ _ _ _ (omega arith) (omega arith) (omega arith) (c .before .before .before .loop .inv .1) (eq-eqb _ _ (c .if1 .taken))
+    lowest-stop _ _ _ _ (omega arith) (omega arith) (omega arith) (c .before .before .before .before .loop .inv .1)
+    (sym (c .before .is-pending .ensures) ∙ c .if1 .taken)
 
 loop-again : tie.Need-loop-again Inv-loop μ-loop
 loop-again c = (
   omega arith,
-  rw (← add-assoc) (lowest-pass _ _ _ (omega arith) (c .before .before .before .loop .inv .1) (ne-eqb _ _ (c .if1 .left))),
+  rw (← add-assoc)
+      (lowest-pass _ _ _ (omega arith) (c .before .before .before .before .loop .inv .1)
+      (sym (c .before .is-pending .ensures) ∙ c .if1 .left)),
 )
 
 returns-2 : tie.Need-returns-2 Inv-loop μ-loop
@@ -41,6 +46,7 @@ row-pending-spec =
     loop-holds
     (λ c. omega arith)
     (λ c. omega arith)
+    (λ c κs. search needs)
     (λ c. omega arith)
     returns
     (λ c. omega arith)

@@ -1,32 +1,22 @@
--- `verdicts::codes::name_rule` meets its contract: each way out has stored at the symbols of the rule. Assumes nothing.
+-- `verdicts::codes::name_rule` meets its contract: the head and the symbols of the body are raised. Assumes nothing.
 use native.Mathlib.Omega.{arith}
-use borrow.Author.Needs.{needs}
-use Rattle.verdicts.proofs.KeyRules.{key-empty, key-unit, key-pair}
-use Rattle.verdicts.proofs.Naming.{marked-first, marked-also}
+use Rattle.verdicts.specs.Inside.Flags.{flagged}
+use Rattle.verdicts.proofs.Raising.{flags-bits}
+use Rattle.verdicts.proofs.Adding.{raise-names}
 use Rattle.verdicts.proofs.codes.name_rule.Statement.{statement}
 use Rattle.verdicts.proofs.codes.name_rule.Tie as tie
 
 returns : tie.Need-returns
-returns c = rw (key-empty _ (c .if1 .taken)) (marked-first _ (omega arith))
+returns c = λ s held.
+    let r = c .before .before in
+    let first = r .raise .ensures s held in
+    raise-names (r .before .before .args .rule) first (c .raise-body .ensures _ (first .flags))
 
-returns-2 : tie.Need-returns-2
-returns-2 c = rw (key-unit _ (c .if2 .taken)) (marked-also _ (omega arith) (marked-first _ (omega arith)))
-
-returns-3 : tie.Need-returns-3
-returns-3 c =
-    rw (key-pair _ (c .before .if1 .left) (c .if2 .left))
-    (marked-also _ (omega arith) (marked-also _ (omega arith) (marked-first _ (omega arith))))
+raise-body-requires : tie.Need-raise-body-requires
+raise-body-requires c κs =
+    let r = c .before in
+    let b = r .before .before in
+    (b .pre .0, flags-bits (r .raise .ensures (flagged (b .args .flags .now)) (b .pre .1) .flags))
 
 pub name-rule-spec : {M : Type 1} → statement M
-name-rule-spec =
-    tie.close
-    (tie.spec
-    (λ c. search needs)
-    (λ c. search needs)
-    returns
-    (λ c. search needs)
-    (λ c. search needs)
-    returns-2
-    (λ c. search needs)
-    (λ c. search needs)
-    returns-3)
+name-rule-spec = tie.close (tie.spec (λ c κs. (omega arith, c .before .pre .1)) raise-body-requires returns)

@@ -1,40 +1,50 @@
 -- `verdicts::codes::write_codes` meets its contract: the first x codes are written. Assumes nothing.
-use Prim.Native.Nat.{_-_}
+use mathlib.Core.Path.{_≡_, refl, _∙_}
+use mathlib.Core.Bool.{Bool, cond}
+use Prim.Native.Nat.{ℕ, _≤_, _-_}
 use native.Mathlib.Omega.{arith}
 use borrow.Author.Needs.{needs}
-use lib.ListN.{getD}
-use Rattle.verdicts.specs.Codes.{codeOf}
-use Rattle.verdicts.proofs.Filling.{Filling, filling-none, filling-more, filling-all}
-use Rattle.verdicts.proofs.CodeCases.{code-is}
+use lib.ListN.{length, length-set}
+use Rattle.verdicts.specs.Operation.{written}
+use Rattle.verdicts.specs.Inside.Flags.{Holds}
+use Rattle.verdicts.proofs.Filling.{written-more}
 use Rattle.verdicts.proofs.codes.write_codes.Statement.{statement}
 use Rattle.verdicts.proofs.codes.write_codes.Tie as tie
 
+abbrev code : (ℕ → Bool) → (ℕ → Bool) → (ℕ → Bool) → ℕ → ℕ
+code n p u X = cond (n X) (cond (p X) (cond (u X) 1 3) 2) 0
+
 abbrev Inv-loop : tie.InvT-loop
-Inv-loop named productive reached codes₀ x₀ codes x =
-    Filling (λ X. codeOf (getD named X 0) (getD productive X 0) (getD reached X 0)) 64 codes₀ codes x
+Inv-loop named productive useful codes₀ x₀ codes x =
+    (x ≤ 64) × (length codes ≡ length codes₀)
+    × ((n p u : ℕ → Bool) → Holds n named → Holds p productive → Holds u useful →
+    codes ≡ written (code n p u) 0 x codes₀)
 
 abbrev μ-loop : tie.MeasureT-loop
-μ-loop named productive reached codes₀ x₀ codes x = 64 - x
+μ-loop named productive useful codes₀ x₀ codes x = 64 - x
 
 loop-holds : tie.Need-loop-holds Inv-loop μ-loop
-loop-holds c = filling-none
+unfolding written
+loop-holds c = (omega arith, refl, λ n p u named productive useful. refl)
 
 loop-again : tie.Need-loop-again Inv-loop μ-loop
 loop-again c =
-    filling-more
-    (c .before .before .before .before .before .loop .inv)
-    (omega arith)
-    (c .before .before .before .before .loop-test .taken)
-    (c .code-of .ensures)
+    let l = c .before .before .before .before .before in
+    let x = l .loop .x in
+    let h : x ≤ 63 = omega arith in (
+      omega arith,
+      length-set (l .loop .codes) x (c .code-of .result) ∙ l .loop .inv .1,
+      λ n p u named productive useful.
+          written-more (code n p u) x (l .before .before .args .codes .now) (omega arith)
+          (l .loop .inv .2 n p u named productive useful)
+          (c .code-of .ensures ∙ rw (named x (omega arith), productive x (omega arith), useful x (omega arith))),
+    )
 
 returns : tie.Need-returns Inv-loop μ-loop
-returns c =
-    let w = filling-all (c .before .loop .inv) (c .loop-test .left) in
-    record {
-      long = w .long;
-      past = w .past;
-      code = λ J named productive reached X l. rw (w .at X l) (code-is J named productive reached X l);
-    }
+returns c = λ n p u named productive useful.
+    let all : 64 ≤ c .before .loop .x = c .loop-test .left in
+    let e : c .before .loop .x ≡ 64 = omega arith in
+    rw e at (c .before .loop .inv .2 n p u named productive useful)
 
 pub write-codes-spec : {M : Type 1} → statement M
 write-codes-spec =
@@ -51,5 +61,5 @@ write-codes-spec =
     (λ c. omega arith)
     (λ c. omega arith)
     loop-again
-    (λ c. c .before .loop .inv .long)
+    (λ c. c .before .loop .inv .1)
     returns)

@@ -1,24 +1,43 @@
--- `verdicts::flags::flag_terminals` meets its contract: the first i places are filled. Assumes nothing.
-use Prim.Native.Nat.{_-_}
+-- `verdicts::flags::flag_terminals` meets its contract: the first x flags are written. Assumes nothing.
+use mathlib.Core.Path.{_≡_, refl, _∙_, ap}
+use Prim.Native.Nat.{_≤_, _-_}
 use native.Mathlib.Omega.{arith}
 use borrow.Author.Needs.{needs}
-use lib.Dec.{leb}
+use lib.ListN.{length, replicate}
 use Rattle.grammar.specs.Counting.{one-if}
-use Rattle.verdicts.proofs.Filling.{Filling, filling-none, filling-more, filling-whole}
+use Rattle.verdicts.specs.Verdicts.{isTerminal}
+use Rattle.verdicts.specs.Operation.{written}
+use Rattle.verdicts.proofs.Filling.{written-long, written-more, written-flags}
 use Rattle.verdicts.proofs.flags.flag_terminals.Statement.{statement}
 use Rattle.verdicts.proofs.flags.flag_terminals.Tie as tie
 
 abbrev Inv-loop : tie.InvT-loop
-Inv-loop flags₀ i₀ flags i = Filling (λ k. one-if (leb 32 k)) 64 flags₀ flags i
+Inv-loop flags₀ x₀ flags x = (x ≤ 64) × (flags ≡ written (λ X. one-if (isTerminal X)) 0 x (replicate 64 0))
 
 abbrev μ-loop : tie.MeasureT-loop
-μ-loop flags₀ i₀ flags i = 64 - i
+μ-loop flags₀ x₀ flags x = 64 - x
+
+loop-holds : tie.Need-loop-holds Inv-loop μ-loop
+unfolding written
+loop-holds c = (omega arith, refl)
+
+element-write-flags : tie.Need-element-write-flags Inv-loop μ-loop
+element-write-flags c =
+    let l = c .before .before .before .loop in
+    omega (arith, ap length (l .inv .1), written-long (λ X. one-if (isTerminal X)) 0 (l .x) (replicate 64 0))
 
 loop-again : tie.Need-loop-again Inv-loop μ-loop
-loop-again c = filling-more (c .before .before .loop .inv) (omega arith) (c .before .loop-test .taken) (c .one-if .ensures)
+loop-again c =
+    let l = c .before .before .before .loop in (
+      omega arith,
+      written-more (λ X. one-if (isTerminal X)) (l .x) (replicate 64 0) (omega arith) (l .inv .1)
+          (c .one-if .ensures ∙ ap one-if (c .before .is-terminal .ensures)),
+    )
 
 returns : tie.Need-returns Inv-loop μ-loop
-returns c = filling-whole (c .before .loop .inv) (c .before .before .pre) (c .loop-test .left)
+returns c =
+    let e : c .before .loop .x ≡ 64 = omega arith in
+    written-flags (replicate 64 0) refl (rw e at (c .before .loop .inv .1))
 
 pub flag-terminals-spec : {M : Type 1} → statement M
 flag-terminals-spec =
@@ -26,9 +45,11 @@ flag-terminals-spec =
     (tie.spec
     Inv-loop
     μ-loop
-    (λ c. filling-none)
+    loop-holds
+    (λ c κs. search needs)
     (λ c κs. search needs)
     (λ c. omega arith)
+    element-write-flags
     (λ c. omega arith)
     (λ c. omega arith)
     loop-again

@@ -1,30 +1,55 @@
--- `verdicts::operation::give` meets its contract: the keys are those of the job's rules, so what `judge` says is said of the job. Assumes nothing.
-use mathlib.Core.Path.{sym, _∙_}
-use mathlib.Core.Bool.{false}
+-- `verdicts::operation::give` meets its contract: the keys are those of the job's rules, so what `judge` says is said
+-- of the job. Assumes nothing.
+use mathlib.Core.Path.{_≡_, sym, _∙_}
+use Prim.Native.Nat.{ℕ}
+use mathlib.Core.List.{List}
 use native.Mathlib.Omega.{arith}
 use borrow.Author.Needs.{needs}
-use Rattle.job.specs.Show.{fullLimits}
-use Rattle.job.specs.Job.{jobOf}
-use Rattle.job.proofs.AcceptedFacts.{start-in-range}
-use Rattle.job.proofs.Keys.{rule-records-within, rules-of-keys}
-use Rattle.verdicts.proofs.JobFacts.{sorted-keys, job-start}
+use Rattle.grammar.specs.Rule.{Rule}
+use Rattle.job.specs.Clear.{cleared}
+use Rattle.job.specs.Job.{Job, jobOf}
+use Rattle.job.proofs.AcceptedFacts.{job-start, start-below}
+use Rattle.job.proofs.Keys.{keys-within, keys-long, keys-fit, rules-of-keys}
+use Rattle.verdicts.specs.declared.Verdicts.{Verdicts}
+use Rattle.verdicts.specs.Verdicts.{isEmpty, growing, codeOf}
+use Rattle.verdicts.specs.Operation.{written, verdictsOn, verdictsLeave}
 use Rattle.verdicts.proofs.operation.give.Statement.{statement}
 use Rattle.verdicts.proofs.operation.give.Tie as tie
+
+-- what is left, by the job's rules and start symbol
+left :
+    (J : Job) (table codes : List ℕ) {rules : List Rule} {S : ℕ} {answer : Verdicts} {table' codes' : List ℕ} →
+    rules ≡ J .rules → S ≡ J .start →
+    table' ≡ cleared 65536 table →
+    (answer ≡ record { number = 0; place = 0; empty = isEmpty rules S; growing = growing rules S })
+    × (codes' ≡ written (codeOf rules S) 0 64 codes) →
+    verdictsLeave answer table' codes' ≡ verdictsOn J table codes
+unfolding verdictsOn
+left J table codes e f t p =
+    let a = rw (e, f) at (p .0) in
+    let c = rw (e, f) at (p .1) in
+    λ i. record { answer = a i; table = t i; codes = c i }
 
 sorted-rules-requires : tie.Need-sorted-rules-requires
 sorted-rules-requires c κs =
     let s = c .before .before .before .before in
-    rule-records-within fullLimits false (s .args .job .now) (s .pre .0)
+    s .pre .0 .few-rules
 
 judge-requires : tie.Need-judge-requires
 judge-requires c κs =
     let f = c .before .before .before .before .before .before in
     let r = f .before in
     let s = r .before .before .before .before .before in
-    let job = s .args .job .now in (
-      sorted-keys job _ _ (s .pre .0) (r .sorted-rules .ensures .0) (r .sorted-rules .ensures .1),
-      omega (arith, f .field-of .ensures, job-start job, start-in-range fullLimits false job (s .pre .0)),
-      s .pre .2,
+    let e = r .sorted-rules .ensures in (
+      record {
+        few = keys-within (s .pre .0) _ _ (e .0) (e .1);
+        long = keys-long (s .pre .0) _ _ (e .0) (e .1);
+        fit = keys-fit (s .pre .0) _ _ (e .0) (e .1);
+      },
+      (
+        omega (arith, f .field-of .ensures, job-start (s .args .job .now), start-below (s .pre .0)),
+        s .pre .1 .1,
+      ),
     )
 
 returns : tie.Need-returns
@@ -34,10 +59,11 @@ returns c =
     let r = f .before in
     let s = r .before .before .before .before .before in
     let job = s .args .job .now in
-    c .before .before .judge .ensures (jobOf job) _ _
-    (sym (rules-of-keys fullLimits false job (s .pre .0) _ _ (r .sorted-rules .ensures .0) (r .sorted-rules .ensures .1)))
-    (job-start job ∙ sym (f .field-of .ensures))
+    left (jobOf job) (s .args .table .now) (s .args .codes .now)
+    (rules-of-keys (s .pre .0) _ _ (r .sorted-rules .ensures .0) (r .sorted-rules .ensures .1))
+    (f .field-of .ensures ∙ sym (job-start job))
     (t .clear-table .ensures)
+    (c .before .before .judge .ensures)
 
 pub give-spec : {M : Type 1} → statement M
 give-spec =

@@ -1,18 +1,32 @@
--- `verdicts::operation::judge` meets its contract: the flags are right, so the codes and the answers are. Assumes nothing.
+-- `verdicts::operation::judge` meets its contract: the flags hold the computed sets, so the codes and the answers are
+-- the computed ones. Assumes nothing.
+use mathlib.Core.Path.{_≡_, ap}
+use mathlib.Core.Bool.{Bool, not}
 use borrow.Author.Needs.{needs}
-use Rattle.verdicts.proofs.Judging.{judging}
+use Rattle.verdicts.specs.declared.Verdicts.{Verdicts}
+use Rattle.verdicts.specs.Verdicts.{growing}
+use Rattle.verdicts.proofs.Raising.{flags-test}
 use Rattle.verdicts.proofs.operation.judge.Statement.{statement}
 use Rattle.verdicts.proofs.operation.judge.Tie as tie
 
+answered : {a b c d : Bool} → a ≡ b → c ≡ d →
+    _≡_ {A = Verdicts} (record { number = 0; place = 0; empty = a; growing = c })
+    (record { number = 0; place = 0; empty = b; growing = d })
+answered p q = λ i. record { number = 0; place = 0; empty = p i; growing = q i }
+
 returns : tie.Need-returns
 returns c =
-    let w = c .before .before .before .before .before in
+    let w = c .before .before .before .before in
     let n = w .before .before .before .before .before in
-    let r = n .before .before in
-    let p = r .before .before .before in
-    let s = p .before .before .before in
-    judging (s .pre .1) (p .productive-symbols .ensures) (r .reached-symbols .ensures) (n .named-symbols .ensures) (w .write-codes .ensures)
-    (c .is-growing .ensures (s .args .start) (r .reached-symbols .ensures))
+    let u = n .before .before in
+    let p = u .before .before .before in
+    let s = p .before .before .before in (
+      answered (ap not (flags-test (p .productive-symbols .ensures) (s .args .start) (s .pre .1 .0)))
+          (c .any-cycle .ensures _ (flags-test (u .useful-symbols .ensures))),
+      w .write-codes .ensures _ _ _ (flags-test (n .named-symbols .ensures))
+          (flags-test (p .productive-symbols .ensures))
+          (flags-test (u .useful-symbols .ensures)),
+    )
 
 pub judge-spec : {M : Type 1} → statement M
 judge-spec =

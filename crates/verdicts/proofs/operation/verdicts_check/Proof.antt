@@ -1,4 +1,5 @@
--- `verdicts::operation::verdicts_check` meets its contract: each way out gives the tests their values. Assumes nothing.
+-- `verdicts::operation::verdicts_check` meets its contract: each way out gives the tests their values. Assumes
+-- nothing.
 use borrow.Author.Needs.{needs}
 use borrow.Author.Tests.{lt-ltb, le-ltb}
 use Rattle.verdicts.specs.Operation.{verdictsCheck}

@@ -1,50 +1,43 @@
--- `verdicts::usefulness::useful_symbols` meets its contract: the first x places are filled. Assumes nothing.
+-- `verdicts::usefulness::useful_symbols` meets its contract: the start symbol, if productive, grows downwards. Assumes
+-- nothing.
 use mathlib.Core.Path.{_∙_, ap}
-use mathlib.Core.Bool.{_&&_}
-use Prim.Native.Nat.{_-_}
+use mathlib.Core.Bool.{Bool, _&&_}
+use Prim.Native.Nat.{ℕ, _<_}
+use mathlib.Core.List.{List}
 use native.Mathlib.Omega.{arith}
-use borrow.Author.Needs.{needs}
-use Rattle.grammar.specs.Rule.{Among}
-use Rattle.grammar.specs.Counting.{one-if}
-use Rattle.verdicts.specs.Flags.{flagged}
-use Rattle.verdicts.proofs.Filling.{Filling, filling-none, filling-more, filling-whole}
-use Rattle.verdicts.proofs.UsefulFlags.{useful-flagged}
+use borrow.Author.Tests.{eqb-true}
+use lib.Dec.{eqb}
+use Rattle.grammar.proofs.Basics.{cases}
+use Rattle.verdicts.specs.Verdicts.{productive, useful}
+use Rattle.verdicts.specs.Inside.Flags.{Flags, flagged, rulesOfKeys}
+use Rattle.verdicts.proofs.Raising.{flags-test, flags-alike, flags-bits}
 use Rattle.verdicts.proofs.usefulness.useful_symbols.Statement.{statement}
 use Rattle.verdicts.proofs.usefulness.useful_symbols.Tie as tie
 
-abbrev Inv-loop : tie.InvT-loop
-Inv-loop productive reached useful₀ x₀ useful x = Filling (λ i. one-if (flagged productive i && flagged reached i)) 64 useful₀ useful x
+-- the start symbol alone, where it is in the set
+started :
+    (S : ℕ) {set : ℕ → Bool} {known flags : List ℕ} → S < 64 → Flags set known →
+    Flags (λ X. eqb S X && flagged known S) flags →
+    Flags (λ X. eqb S X && set X) flags
+started S {set} {known} l k held =
+    flags-alike held
+    (λ X _.
+    cases (eqb S X) (λ e. rw e (flags-test k S l ∙ ap set (eqb-true S X e))) (λ e. rw e))
 
-abbrev μ-loop : tie.MeasureT-loop
-μ-loop productive reached useful₀ x₀ useful x = 64 - x
+grow-requires : tie.Need-grow-requires
+grow-requires c κs =
+    let f = c .before in
+    let s = f .before .before .before in
+    (s .pre .0, flags-bits (f .flag-one .ensures))
 
-loop-holds : tie.Need-loop-holds Inv-loop μ-loop
-loop-holds c = filling-none
-
-loop-again : tie.Need-loop-again Inv-loop μ-loop
-loop-again c =
-    filling-more
-    (c .before .before .before .loop .inv)
-    (omega arith)
-    (c .before .before .loop-test .taken)
-    (c .one-if .ensures ∙ ap one-if (c .before .has-both .ensures))
-
-returns : tie.Need-returns Inv-loop μ-loop
-returns c = λ rs S productive reached.
-    useful-flagged (Among rs) S productive reached
-    (filling-whole (c .before .loop .inv) (c .before .before .pre) (c .loop-test .left))
+returns : tie.Need-returns
+unfolding useful
+returns c =
+    let f = c .before .before in
+    let s = f .before .before .before in
+    c .grow .ensures (productive (rulesOfKeys (s .args .keys .now) (s .args .n))) _ (flags-test (s .pre .1 .1))
+    (started (s .args .start) (s .pre .1 .0) (s .pre .1 .1) (f .flag-one .ensures))
 
 pub useful-symbols-spec : {M : Type 1} → statement M
 useful-symbols-spec =
-    tie.close
-    (tie.spec
-    Inv-loop
-    μ-loop
-    loop-holds
-    (λ c κs. omega arith)
-    (λ c κs. search needs)
-    (λ c. omega arith)
-    (λ c. omega arith)
-    (λ c. omega arith)
-    loop-again
-    returns)
+    tie.close (tie.spec (λ c. omega arith) (λ c κs. c .before .before .pre .1 .0) grow-requires returns)

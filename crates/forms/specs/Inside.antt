@@ -1,0 +1,3 @@
+pub mod AcceptanceParts
+pub mod ListingParts
+pub mod ExplainParts

@@ -1,0 +1,3 @@
+pub mod AcceptanceTheorems
+pub mod ListingTheorems
+pub mod ExplainTheorems

@@ -1,0 +1,4 @@
+pub mod Inductive
+pub mod Papers
+pub mod Counting
+pub mod Examples

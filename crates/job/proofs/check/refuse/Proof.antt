@@ -1,0 +1,12 @@
+-- `check::refuse` makes the refusal that the definition makes. Assumes nothing.
+use mathlib.Core.Path.{refl}
+use Rattle.job.specs.Check.{recordPlace}
+use Rattle.job.proofs.check.refuse.Statement.{statement}
+use Rattle.job.proofs.check.refuse.Tie as tie
+
+returns : tie.Need-returns
+unfolding recordPlace
+returns c = refl
+
+pub refuse-spec : {M : Type 1} → statement M
+refuse-spec = tie.close (tie.spec returns)

@@ -1,0 +1,29 @@
+-- `show::shown_part`: where the check answers 3 to 7 it names one of at most 4,096 records. Assumes nothing.
+use mathlib.Core.Path.{_≡_, ap, _∙_}
+use mathlib.Core.Bool.{false}
+use mathlib.Core.List.{List}
+use Prim.Native.Nat.{ℕ, _≤_, _<_}
+use borrow.Author.Needs.{needs}
+use Rattle.job.specs.declared.Limits.{Limits}
+use Rattle.job.specs.declared.Checked.{Checked}
+use Rattle.job.specs.declared.Part.{Part}
+use Rattle.job.specs.Check.{checkOf, fullLimits}
+use Rattle.job.specs.Show.{partOf, shownPart}
+use Rattle.job.proofs.JobChecks.{at-full-limits}
+use Rattle.job.proofs.RefusedPlace.{place-below}
+use Rattle.job.proofs.show.shown_part.Statement.{statement}
+use Rattle.job.proofs.show.shown_part.Tie as tie
+
+module _ (c : Checked) (l : Limits) (job : List ℕ) (is : c ≡ checkOf l false job) where
+  few : 3 ≤ c .number → c .number ≤ 7 → c .place < 4096
+  few h k = rw is (place-below l false job (rw is at h) (rw is at k))
+
+  shown : l ≡ fullLimits → (p : Part) → p ≡ partOf c → p ≡ shownPart job
+  unfolding shownPart
+  shown full p e = e ∙ ap partOf (at-full-limits false job full is)
+
+ruleset ways = (few, shown)
+
+pub shown-part-spec : {M : Type 1} → statement M
+shown-part-spec =
+    tie.close (tie.spec (λ c κs. search needs) (λ c κs. search needs) (λ c κs. search few) (λ c. search shown))

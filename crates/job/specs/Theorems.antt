@@ -1,0 +1,4 @@
+pub mod InRange
+pub mod OrderFree
+pub mod RankCounts
+pub mod StateCount

@@ -1,0 +1,39 @@
+-- The ways through the checks of the report: the tests in turn. Assumes nothing.
+use mathlib.Core.Path.{_≡_}
+use mathlib.Core.Bool.{true}
+use mathlib.Core.List.{List}
+use Prim.Native.Nat.{ℕ, _≤_, _<_}
+use lib.ListN.{length}
+use borrow.Author.Tests.{lt-ltb, le-ltb}
+use Rattle.job.specs.Check.{checkOf, fullLimits, refused}
+use Rattle.saturation.specs.Table.{Lent, tableSize, reasonsSize}
+use Rattle.reporting.specs.Operation.{reportCheck}
+
+module _ (job : List ℕ) (m : Lent) (codes : List ℕ) where
+  pub short-table : length (m .table) < tableSize → refused 10 1 ≡ reportCheck job m codes
+  unfolding reportCheck
+  short-table h = rw (lt-ltb (length (m .table)) tableSize h)
+
+  module _ (long : tableSize ≤ length (m .table)) where
+    pub short-reasons : length (m .reasons) < reasonsSize → refused 10 2 ≡ reportCheck job m codes
+    unfolding reportCheck
+    short-reasons h = rw (le-ltb (length (m .table)) tableSize long, lt-ltb (length (m .reasons)) reasonsSize h)
+
+    module _ (long-reasons : reasonsSize ≤ length (m .reasons)) where
+      pub short-codes : length codes < 64 → refused 10 3 ≡ reportCheck job m codes
+      unfolding reportCheck
+      short-codes h =
+          rw (
+            le-ltb (length (m .table)) tableSize long,
+            le-ltb (length (m .reasons)) reasonsSize long-reasons,
+            lt-ltb (length codes) 64 h,
+          )
+
+      pub long-enough : 64 ≤ length codes → checkOf fullLimits true job ≡ reportCheck job m codes
+      unfolding reportCheck
+      long-enough h =
+          rw (
+            le-ltb (length (m .table)) tableSize long,
+            le-ltb (length (m .reasons)) reasonsSize long-reasons,
+            le-ltb (length codes) 64 h,
+          )

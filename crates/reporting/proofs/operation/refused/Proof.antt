@@ -1,0 +1,7 @@
+-- `reporting::operation::refused` meets its contract: field by field. Assumes nothing.
+use mathlib.Core.Path.{refl}
+use Rattle.reporting.proofs.operation.refused.Statement.{statement}
+use Rattle.reporting.proofs.operation.refused.Tie as tie
+
+pub refused-spec : {M : Type 1} → statement M
+refused-spec = tie.close (tie.spec (λ c. refl))

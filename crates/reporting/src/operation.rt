@@ -1,0 +1,81 @@
+// The report, for every input.
+use crate::RUN_STEPS;
+use job::CODE_BYTES;
+use job::Checked;
+use job::REASON_NUMBERS;
+use job::TABLE_BYTES;
+use text::Report;
+ghost use mathlib.Core.Path.{_≡_};
+ghost use mathlib.Core.Bool.{false};
+ghost use Rattle.saturation.specs.Table.{lentOf};
+ghost use Rattle.reporting.specs.Operation.{reportCheck, refusedReport, reportLeaves, reportOf};
+
+// The checks of the report: short buffers, then the job's.
+fn report_check(job: &[u8], table: &[u8], reasons: &[u16], codes: &[u8]) -> Checked
+    ensures checked { λ c. ⌜ c ≡ reportCheck (now (job .entry))
+        (lentOf (now (table .entry)) (now (reasons .entry))) (now (codes .entry)) ⌝ }
+{
+    if table.len() < TABLE_BYTES {
+        return Checked {
+            number: 10,
+            place: 1,
+        };
+    }
+    if reasons.len() < REASON_NUMBERS {
+        return Checked {
+            number: 10,
+            place: 2,
+        };
+    }
+    if codes.len() < CODE_BYTES {
+        return Checked {
+            number: 10,
+            place: 3,
+        };
+    }
+    job::check::check(job, job::show::full_limits(), true)
+}
+
+// The report on a refused call.
+fn refused(c: Checked) -> Report
+    ensures answer { λ r. ⌜ r ≡ refusedReport c ⌝ }
+{
+    Report {
+        number: c.number,
+        place: c.place,
+        states: 0,
+        examined: 0,
+        joins: 0,
+        start: false,
+        empty: false,
+        growing: false,
+    }
+}
+
+// Runs a job to the end, asks the start symbol, and gives the verdicts, which leave the table 0.
+pub fn report(job: &[u8], table: &mut [u8], reasons: &mut [u16], codes: &mut [u8]) -> Report
+    ensures outcome { λ r. ⌜
+        reportLeaves r (lentOf (now (table .exit)) (now (reasons .exit))) (now (codes .exit))
+        ≡ reportOf (now (job .entry)) (lentOf (now (table .entry)) (now (reasons .entry))) (now (codes .entry))
+        ⌝ }
+{
+    let c = report_check(job, table, reasons, codes);
+    if c.number != 0 {
+        return refused(c);
+    }
+    let started = saturation::operations::start(job, table, reasons);
+    let advanced = saturation::operations::advance(job, table, reasons, RUN_STEPS);
+    let form = [job::lookup::field_of(job, b'S')];
+    let asked = forms::ask::ask(job, table, &form);
+    let judged = verdicts::operation::verdicts(job, table, codes);
+    Report {
+        number: 0,
+        place: 0,
+        states: started.states,
+        examined: advanced.steps,
+        joins: advanced.meetings,
+        start: asked.accepted,
+        empty: judged.empty,
+        growing: judged.growing,
+    }
+}

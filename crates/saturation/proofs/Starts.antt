@@ -1,0 +1,10 @@
+-- Laws: what start writes, and runs from a start.
+pub mod EmptyRules
+pub mod StartLaws
+pub mod StartCounts
+pub mod Written
+pub mod StartGiven
+pub mod StartLoops
+pub mod StartRules
+pub mod StartDone
+pub mod StartWalk

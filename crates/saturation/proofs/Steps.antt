@@ -1,0 +1,7 @@
+-- Laws: what a step makes, and runs of steps.
+pub mod Taken
+pub mod Taking
+pub mod StepLaws
+pub mod MeetingsMade
+pub mod FirstPart
+pub mod Running

@@ -1,0 +1,104 @@
+-- Laws of `firstFrom`: the first number that passes a test passes, and comes before every other that does. By
+-- induction on how many numbers are tried. Assumes nothing.
+use mathlib.Core.Path.{_≡_, refl, sym}
+use mathlib.Core.Bool.{Bool, true, false, cond}
+use Prim.Native.Nat.{ℕ, zero, suc, _+_, _-_, _≤_, _<_}
+use native.Mathlib.Omega.{arith}
+use native.Mathlib.Numerals.{add-one}
+use lib.Dec.{eqb, ltb}
+use borrow.Author.Tests.{ltb-true, ltb-false, eqb-true, eqb-false}
+use Rattle.grammar.proofs.Basics.{cases, true-and-false, not-true-false}
+use Rattle.saturation.specs.Step.{firstFrom}
+
+-- one step of the search
+pub first-here : (f : ℕ → Bool) (i k : ℕ) → f i ≡ true → firstFrom f i (suc k) ≡ i
+unfolding firstFrom
+first-here f i k e = rw e
+
+pub first-later : (f : ℕ → Bool) (i k : ℕ) → f i ≡ false → firstFrom f i (suc k) ≡ firstFrom f (suc i) k
+unfolding firstFrom
+first-later f i k e = rw e
+
+-- the same, where the search goes up to n
+pub search-stops : (f : ℕ → Bool) (n i : ℕ) → i < n → f i ≡ true → firstFrom f i (n - i) ≡ i
+search-stops f n i l e =
+    let left : n - i ≡ suc (n - (i + 1)) = omega arith in
+    rw left (first-here f i (n - (i + 1)) e)
+
+pub search-goes-on :
+    (f : ℕ → Bool) (n i : ℕ) → i < n → f i ≡ false → firstFrom f (i + 1) (n - (i + 1)) ≡ firstFrom f i (n - i)
+search-goes-on f n i l e =
+    let left : n - i ≡ suc (n - (i + 1)) = omega arith in
+    rw (left, add-one i) (sym (first-later f i (n - suc i) e))
+
+pub search-ends : (f : ℕ → Bool) (n i : ℕ) → n ≤ i → firstFrom f i (n - i) ≡ i
+unfolding firstFrom
+search-ends f n i l =
+    let none : n - i ≡ 0 = omega arith in
+    rw none
+
+-- tests that agree find the same first
+pub first-cong :
+    (f g : ℕ → Bool) (i k : ℕ) → ((j : ℕ) → j < i + k → f j ≡ g j) → firstFrom f i k ≡ firstFrom g i k
+unfolding firstFrom
+first-cong f g i zero same = refl
+first-cong f g i (suc k) same =
+    λ d. cond (same i (omega arith) d) i (first-cong f g (suc i) k (λ j l. same j (omega arith)) d)
+
+module _ (f : ℕ → Bool) where
+  pub first-within : (i k : ℕ) → firstFrom f i k ≤ i + k
+  unfolding firstFrom
+  first-within i zero = omega arith
+  first-within i (suc k) =
+      cases (f i) (λ c. rw c (omega arith)) (λ c. rw c (omega (arith, first-within (suc i) k)))
+
+  -- the first that passes comes before every other
+  pub first-least : (i k j : ℕ) → i ≤ j → j < i + k → f j ≡ true → firstFrom f i k ≤ j
+  first-least i zero j a b e = absurd (omega arith)
+  first-least i (suc k) j a b e =
+      cases
+      (f i)
+      (λ c. omega (arith, first-here f i k c))
+      (λ c.
+      cases
+      (eqb i j)
+      (λ s. true-and-false (rw (← eqb-true i j s) at e) c)
+      (λ s.
+      let other : ¬ (i ≡ j) = eqb-false i j s in
+      omega (arith, first-later f i k c, first-least (suc i) k j (omega arith) (omega arith) e)))
+
+  -- and it passes, if there is one
+  pub first-passes : (i k : ℕ) → firstFrom f i k < i + k → f (firstFrom f i k) ≡ true
+  unfolding firstFrom
+  first-passes i zero l = absurd (omega arith)
+  first-passes i (suc k) l =
+      cases
+      (f i)
+      (λ c. rw (first-here f i k c) c)
+      (λ c.
+      rw (first-later f i k c)
+      (first-passes (suc i) k (omega (arith, first-later f i k c))))
+
+  -- none before it passes
+  pub none-before-first : (n k : ℕ) → k < firstFrom f 0 n → f k ≡ false
+  none-before-first n k l =
+      not-true-false (f k)
+      (λ e. omega (arith, first-within 0 n, first-least 0 n k (omega arith) (omega (arith, first-within 0 n)) e))
+
+  -- a number below n that passes, with none before it, is the first; and n is where none passes
+  pub is-first :
+      (n p : ℕ) → p ≤ n → (p < n → f p ≡ true) → ((k : ℕ) → k < p → f k ≡ false) → p ≡ firstFrom f 0 n
+  is-first n p within found none =
+      cases
+      (ltb (firstFrom f 0 n) p)
+      (λ c.
+      let l : firstFrom f 0 n < p = ltb-true (firstFrom f 0 n) p c in
+      true-and-false (first-passes 0 n (omega arith)) (none (firstFrom f 0 n) l))
+      (λ c. omega (arith, ltb-false (firstFrom f 0 n) p c, at-most))
+    where
+      at-most : firstFrom f 0 n ≤ p
+      at-most =
+          cases
+          (ltb p n)
+          (λ c. let l : p < n = ltb-true p n c in first-least 0 n p (omega arith) (omega arith) (found l))
+          (λ c. omega (arith, ltb-false p n c, first-within 0 n))

@@ -1,0 +1,37 @@
+-- The lowest pending place: it is pending and none before it is, and there is none exactly where the table is
+-- finished. Assumes nothing.
+use mathlib.Core.Path.{_≡_}
+use mathlib.Core.Bool.{true, false}
+use Prim.Native.Nat.{ℕ, _≤_, _<_}
+use native.Mathlib.Omega.{arith}
+use borrow.Author.Tests.{leb-true, leb-false}
+use Rattle.grammar.proofs.Basics.{cases, true-and-false}
+use Rattle.saturation.specs.Table.{tableSize, Statuses, isPendingAt}
+use Rattle.saturation.specs.Step.{lowest, isFinished}
+use Rattle.saturation.proofs.Tables.FirstFrom.{first-within, first-passes, first-cong, none-before-first}
+
+module _ (v : Statuses) where
+  pub lowest-within : lowest v ≤ tableSize
+  lowest-within = omega (arith, first-within (isPendingAt v) 0 tableSize)
+
+  pub unfinished-below : isFinished v ≡ false → lowest v < tableSize
+  unfinished-below e = leb-false tableSize (lowest v) e
+
+  pub lowest-is-pending : isFinished v ≡ false → isPendingAt v (lowest v) ≡ true
+  lowest-is-pending e = first-passes (isPendingAt v) 0 tableSize (omega (arith, unfinished-below e))
+
+  pub before-lowest : (p : ℕ) → p < lowest v → isPendingAt v p ≡ false
+  before-lowest = none-before-first (isPendingAt v) tableSize
+
+  pub finished-none-pending : isFinished v ≡ true → (p : ℕ) → p < tableSize → isPendingAt v p ≡ false
+  finished-none-pending e p h =
+      before-lowest p (omega (arith, leb-true tableSize (lowest v) e))
+
+  pub none-pending-finished : ((p : ℕ) → p < tableSize → isPendingAt v p ≡ false) → isFinished v ≡ true
+  none-pending-finished none =
+      cases (isFinished v) (λ e. e) (λ e. true-and-false (lowest-is-pending e) (none (lowest v) (unfinished-below e)))
+
+-- it depends on which places are pending alone
+pub lowest-cong :
+    (v v' : Statuses) → ((p : ℕ) → p < tableSize → isPendingAt v p ≡ isPendingAt v' p) → lowest v ≡ lowest v'
+lowest-cong v v' same = first-cong (isPendingAt v) (isPendingAt v') 0 tableSize (λ p l. same p (omega arith))

@@ -1,0 +1,5 @@
+pub mod Placing
+pub mod Spelling
+pub mod PlacedDigits
+pub mod Answers
+pub mod Lengths

@@ -1,0 +1,19 @@
+-- `text::pieces::put` meets its contract. Assumes nothing.
+use borrow.Author.Needs.{needs}
+use Rattle.text.proofs.Placing.{no-room}
+use Rattle.text.proofs.pieces.put.Statement.{statement}
+use Rattle.text.proofs.pieces.put.Tie as tie
+
+returns-2 : tie.Need-returns-2
+returns-2 c = no-room (c .if1 .left)
+
+pub put-spec : {M : Type 1} → statement M
+put-spec =
+    tie.close
+    (tie.spec
+    (λ c. search needs)
+    (λ c. search needs)
+    (λ c. search needs)
+    (λ c. search needs)
+    (λ c. search needs)
+    returns-2)

@@ -1,0 +1,18 @@
+-- `text::theorems::as_printed` carries its statement, which computes. Assumes nothing.
+use mathlib.Core.Path.{refl}
+use Rattle.text.specs.Words.{digits, decimal}
+use Rattle.text.specs.Lines.{refusedLine, numberLine, answerLine, codeLine, lines}
+use Rattle.text.specs.Records.{transitionText, secondText, bodyText, reasonText, recordLine}
+use Rattle.text.specs.Texts.{reportText, codesText, shownRecords, explainText}
+use Rattle.text.specs.Theorems.Printed.{AsPrinted}
+use Rattle.text.proofs.theorems.as_printed.Statement.{statement}
+use Rattle.text.proofs.theorems.as_printed.Tie as tie
+
+printed : AsPrinted
+unfolding digits decimal refusedLine numberLine answerLine codeLine lines transitionText secondText bodyText reasonText
+    recordLine reportText codesText shownRecords explainText
+printed =
+    record { largest = refl; reported = refl; refused = refl; coded = refl; explained = refl; notAccepted = refl }
+
+pub as-printed-spec : {M : Type 1} → statement M
+as-printed-spec = tie.close (tie.spec (λ c. printed))

@@ -1,0 +1,14 @@
+-- `verdicts::theorems::productive_is_meant` meets its contract: the computed set is closed under the rules and within
+-- the papers' set. Assumes nothing.
+use Rattle.verdicts.specs.Theorems.Meant.{ProductiveIsMeant}
+use Rattle.verdicts.proofs.Papers.{productive-is}
+use Rattle.verdicts.proofs.KeyRules.{range-below}
+use Rattle.verdicts.proofs.theorems.productive_is_meant.Statement.{statement}
+use Rattle.verdicts.proofs.theorems.productive_is_meant.Tie as tie
+
+returns : tie.Need-returns
+unfolding ProductiveIsMeant
+returns c = λ rules r X. productive-is rules (range-below r) X
+
+pub productive-is-meant-spec : {M : Type 1} → statement M
+productive-is-meant-spec = tie.close (tie.spec returns)

@@ -1,0 +1,14 @@
+-- `verdicts::theorems::useful_is_meant` meets its contract: the computed set is closed under the rules and within the
+-- papers' set. Assumes nothing.
+use Rattle.verdicts.specs.Theorems.Meant.{UsefulIsMeant}
+use Rattle.verdicts.proofs.Papers.{useful-is}
+use Rattle.verdicts.proofs.KeyRules.{range-below}
+use Rattle.verdicts.proofs.theorems.useful_is_meant.Statement.{statement}
+use Rattle.verdicts.proofs.theorems.useful_is_meant.Tie as tie
+
+returns : tie.Need-returns
+unfolding UsefulIsMeant
+returns c = λ rules r S X. useful-is rules (range-below r) S X
+
+pub useful-is-meant-spec : {M : Type 1} → statement M
+useful-is-meant-spec = tie.close (tie.spec returns)

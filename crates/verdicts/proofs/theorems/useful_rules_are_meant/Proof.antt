@@ -1,0 +1,13 @@
+-- `verdicts::theorems::useful_rules_are_meant` meets its contract: their symbols are all useful. Assumes nothing.
+use Rattle.verdicts.specs.Theorems.Meant.{UsefulRulesAreMeant}
+use Rattle.verdicts.proofs.Papers.{useful-rules-are}
+use Rattle.verdicts.proofs.KeyRules.{range-below}
+use Rattle.verdicts.proofs.theorems.useful_rules_are_meant.Statement.{statement}
+use Rattle.verdicts.proofs.theorems.useful_rules_are_meant.Tie as tie
+
+returns : tie.Need-returns
+unfolding UsefulRulesAreMeant
+returns c = λ rules r S ρ. useful-rules-are rules (range-below r) S ρ
+
+pub useful-rules-are-meant-spec : {M : Type 1} → statement M
+useful-rules-are-meant-spec = tie.close (tie.spec returns)
