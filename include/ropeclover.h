@@ -1,34 +1,79 @@
 /* Ropeclover: what a context-free grammar can say.
  *
- * A job is a string of four-byte records: a grammar and an automaton (the table of kinds is in the README). The library allocates nothing,
- * keeps nothing between calls, and may be called from any thread on memory that no other thread uses meanwhile. It uses less than 128 KiB of
- * stack.
+ * A job holds a grammar and a nondeterministic automaton. The library adds to the automaton's transitions those that the rules allow, until
+ * nothing changes: where A -> X or A -> B C is a rule and its right side leads from state q to state r, the transition (q, A, r) is added; where
+ * A -> empty is a rule, (q, A, q). Then a string of symbols, a form, leads from the initial state to a final one if, and only if, it derives a
+ * string that the given automaton reads. The library also tells which symbols are useless, whether the language is empty and whether it grows.
  *
- * Every function takes each buffer as a pointer and its length (in elements), and writes its answer whole, on every path:
+ * Platform: x86-64 Linux. Link with -lropeclover (pkg-config ropeclover).
+ *
+ * THE JOB
+ *
+ * Records of four bytes, in any order: a letter and three fields. Variables are 0 to 31, terminals 32 to 63, symbols are both, states are 0 to
+ * 31. At most 4,096 records, of which at most 256 are rules (E, U, P); no record twice.
+ *
+ *   E  A 0 0    rule A -> empty             T  q X r    given transition from state q by symbol X to state r
+ *   U  A X 0    rule A -> X, a symbol       I  q 0 0    initial state, exactly one
+ *   P  A B C    rule A -> B C, variables    F  q 0 0    final state, any number
+ *   S  A 0 0    start symbol, exactly one
+ *
+ * The number of states is one more than the largest state in a T, I or F record. A rule's rank is its place, from 0, when the job's rules are
+ * sorted by field 1, then by kind letter, then by fields 2 and 3.
+ *
+ * CALLING
+ *
+ * Every function takes each buffer as a pointer and its length in elements, and writes its answer whole, on every path:
+ *
  *   answer[0]  0, or the number of a refusal
  *   answer[1]  0, or the place of the refusal
  *   the rest   what is said at each function; all 0 with a refusal. Yes is 1, no is 0.
- * A pointer is never NULL, not even where its length is 0. No two buffers may overlap.
  *
- * Refusals, in the order of the checks:
- *   10  a lent buffer is short: place 1 table (65536 bytes), 2 reasons (32768 numbers), 3 codes (64 bytes)
- *    2  the job has over 16384 bytes; the place is its length
- *    1  the job's length is no multiple of 4; the place is its number of whole records
- *    3  unknown kind byte             }
- *    4  a field outside its class     }
- *    5  the same record stands before }  the place is the record's number, from 0
- *    6  a second S or a second I      }
- *    7  the 257th rule                }
- *    8  no S record; the place is the number of records
- *    9  no I record; the place is the number of records (never by ropeclover_verdicts)
- *   12  the form has over 64 symbols; the place is its length
- *   11  a byte of the form is over 63; the place is its position
- *   13  the listing is too short; the place is the number of records needed (ropeclover_explain only)
- * A refused call leaves all lent memory as it was, but for 13: then table and reasons are as after a success.
+ * A pointer is never NULL, not even where its length is 0. No two buffers may overlap. The library allocates nothing, keeps nothing between
+ * calls, and may be called from any thread on memory that no other thread uses meanwhile. It needs less than 128 KiB of stack. Answers do not
+ * depend on the order of the records.
+ *
+ * THE LENT MEMORY
  *
  * The table has a byte for each transition (q, X, r), at q * 2048 + X * 32 + r: 0 absent, 1 pending, 2 done, 3 done and listed; 4 to 255 are
  * read as absent. The reasons have a number for each transition (q, A, r) of a variable, at q * 1024 + A * 32 + r: 0 none, 65535 given, else
- * 1 + 32 * rank + middle state. Bytes and numbers past the first 65536 and 32768 are neither read nor written.
+ * 1 + 32 * rank + middle state. Bytes and numbers past ROPECLOVER_TABLE_BYTES and ROPECLOVER_REASONS are neither read nor written. Any contents
+ * are allowed: ropeclover_start writes all of them.
+ *
+ * AN EXAMPLE
+ *
+ * S -> a | A A and A -> S A | b, with the automaton 0 -a-> 1 -b-> 2 -a-> 1, final state 2. It prints 'accepted', as S derives the string ab.
+ *
+ * example:
+ *   #include <ropeclover.h>
+ *   #include <stdio.h>
+ *
+ *   int main(void)
+ *   {
+ *       static const uint8_t job[] = {'S', 0, 0, 0, 'U', 0, 32, 0, 'P', 0, 1, 1, 'P', 1, 0, 1, 'U', 1, 33, 0,
+ *                                     'I', 0, 0, 0, 'F', 2, 0, 0, 'T', 0, 32, 1, 'T', 1, 33, 2, 'T', 2, 32, 1};
+ *       static const uint8_t form[] = {0};
+ *       static uint8_t table[ROPECLOVER_TABLE_BYTES];
+ *       static uint16_t reasons[ROPECLOVER_REASONS];
+ *       uint64_t answer[ROPECLOVER_ANSWER_NUMBERS];
+ *
+ *       ropeclover_start(job, sizeof job, table, sizeof table, reasons, ROPECLOVER_REASONS, answer);
+ *       while (answer[0] == 0) {
+ *           ropeclover_advance(job, sizeof job, table, sizeof table, reasons, ROPECLOVER_REASONS, 1000, answer);
+ *           if (answer[2] == 1) {
+ *               break;
+ *           }
+ *       }
+ *       if (answer[0] == 0) {
+ *           ropeclover_ask(job, sizeof job, table, sizeof table, form, sizeof form, answer);
+ *       }
+ *       if (answer[0] != 0) {
+ *           printf("refused %d at %d\n", (int)answer[0], (int)answer[1]);
+ *           return 1;
+ *       }
+ *       puts(answer[2] == 1 ? "accepted" : "not accepted");
+ *       return 0;
+ *   }
+ * end of the example
  */
 #ifndef ROPECLOVER_H
 #define ROPECLOVER_H
@@ -40,33 +85,98 @@
 extern "C" {
 #endif
 
+#define ROPECLOVER_VERSION "0.1.0"
+#define ROPECLOVER_VERSION_MAJOR 0
+#define ROPECLOVER_VERSION_MINOR 1
+#define ROPECLOVER_VERSION_PATCH 0
+
+/* The lengths to lend. A longer buffer is taken too; a shorter one is refused. */
 #define ROPECLOVER_TABLE_BYTES 65536
 #define ROPECLOVER_REASONS 32768
 #define ROPECLOVER_CODES 64
+
+/* The longest job, and its records of four bytes. */
+#define ROPECLOVER_JOB_BYTES 16384
+#define ROPECLOVER_RECORDS 4096
+#define ROPECLOVER_RULES 256
+
+/* Numbers below these: variables are symbols below ROPECLOVER_VARIABLES, terminals the other symbols. */
+#define ROPECLOVER_VARIABLES 32
+#define ROPECLOVER_SYMBOLS 64
+#define ROPECLOVER_STATES 32
+
+/* The longest form in symbols, and the longest listing: a record of 8 bytes for each transition. */
+#define ROPECLOVER_FORM_SYMBOLS 64
+#define ROPECLOVER_LISTING_RECORD_BYTES 8
+#define ROPECLOVER_LISTING_BYTES 524288
+
+/* Room for every function's answer. */
+#define ROPECLOVER_ANSWER_NUMBERS 5
+
+/* The most steps that an advance can make: this many finish any table. */
+#define ROPECLOVER_STEPS 65536
+
+/* Refusals, in the order of the checks; 3 to 7 are tried in that order on each record before the next. With 3 to 7 the place is the record's
+ * number, from 0. A refused call leaves all lent memory as it was, but for 13: then table and reasons are as after a success. */
+enum ropeclover_refusal {
+    ROPECLOVER_ACCEPTED = 0,
+    ROPECLOVER_SHORT_BUFFER = 10,       /* the place is 1 for the table, 2 for the reasons, 3 for the codes */
+    ROPECLOVER_JOB_TOO_LONG = 2,        /* over ROPECLOVER_JOB_BYTES; the place is the job's length */
+    ROPECLOVER_PARTIAL_RECORD = 1,      /* the length is no multiple of 4; the place is the number of whole records */
+    ROPECLOVER_UNKNOWN_KIND = 3,
+    ROPECLOVER_FIELD_OUTSIDE_CLASS = 4,
+    ROPECLOVER_REPEATED = 5,            /* the same four bytes stand in an earlier record */
+    ROPECLOVER_SECOND = 6,              /* a second S or a second I */
+    ROPECLOVER_TOO_MANY_RULES = 7,      /* the 257th rule */
+    ROPECLOVER_NO_START = 8,            /* no S record; the place is the number of records */
+    ROPECLOVER_NO_INITIAL = 9,          /* no I record; the place is the number of records. Never by ropeclover_verdicts */
+    ROPECLOVER_FORM_TOO_LONG = 12,      /* over ROPECLOVER_FORM_SYMBOLS; the place is the form's length */
+    ROPECLOVER_NO_SYMBOL = 11,          /* a byte of the form is over 63; the place is its position */
+    ROPECLOVER_LISTING_TOO_SHORT = 13   /* the place is the number of listing records needed. Only by ropeclover_explain */
+};
+
+/* A table byte. */
+enum ropeclover_mark {
+    ROPECLOVER_ABSENT = 0,
+    ROPECLOVER_PENDING = 1,
+    ROPECLOVER_DONE = 2,
+    ROPECLOVER_DONE_AND_LISTED = 3
+};
+
+/* A symbol's code. */
+enum ropeclover_code {
+    ROPECLOVER_NOT_NAMED = 0,           /* named in no rule, and not the start symbol */
+    ROPECLOVER_USEFUL = 1,              /* some string of terminals that the start symbol derives is derived by way of it */
+    ROPECLOVER_DERIVES_NO_STRING = 2,   /* it derives no string of terminals */
+    ROPECLOVER_NEVER_REACHED = 3        /* it derives one, but is never reached from the start symbol between strings of terminals */
+};
 
 /* Writes the table and the reasons that the job starts from. answer[2]: the number of states. */
 void ropeclover_start(const uint8_t *job, size_t job_len, uint8_t *table, size_t table_len, uint16_t *reasons, size_t reasons_len,
                       uint64_t answer[3]);
 
-/* Makes n steps, fewer if finished, on any table. answer[2]: whether no transition is pending any more; answer[3]: the steps made;
- * answer[4]: the rise in pair meetings of the done transitions. */
+/* Makes n steps, fewer if finished, on any table: each makes the pending transition of lowest place done, and those that follow from it and the
+ * done ones pending. answer[2]: whether no transition is pending any more; answer[3]: the steps made; answer[4]: the rise in pair meetings of the
+ * done transitions, the ways a P rule meets two adjoining ones. */
 void ropeclover_advance(const uint8_t *job, size_t job_len, uint8_t *table, size_t table_len, uint16_t *reasons, size_t reasons_len,
                         uint64_t n, uint64_t answer[5]);
 
-/* Whether the form leads from the initial state to a final one over the done transitions of the table, which is only read.
- * answer[2]: whether it is accepted. */
+/* Whether the form leads from the initial state to a final one over the done transitions of the table, which is only read. On a table that this
+ * job's start and advances have finished, that is whether it derives a string of the automaton. A form of length 0 is accepted if the initial
+ * state is final. answer[2]: whether it is accepted. */
 void ropeclover_ask(const uint8_t *job, size_t job_len, const uint8_t *table, size_t table_len, const uint8_t *form, size_t form_len,
                     uint64_t answer[3]);
 
-/* Starts, runs to the end, and lists why the form is accepted: records of 8 bytes, each after its premises. A record is q, X, r, then
- * G 0 0 0 0 for a given transition, or the rule's kind byte, field 2, field 3, the middle state, 0. The listing past the records is left as it
- * was. answer[2]: whether the form is accepted; answer[3]: the number of records, 0 where it is not. */
+/* Starts, runs to the end, and lists why the form is accepted: records of 8 bytes, each after its premises, each transition once, along the
+ * accepting state sequence that comes first in lexicographic order. A record is q, X, r, then 'G' 0 0 0 0 for a given transition, or the rule's
+ * kind letter, field 2, field 3, the middle state, 0. The listing past the records is left as it was; ROPECLOVER_LISTING_BYTES are always enough.
+ * answer[2]: whether the form is accepted; answer[3]: the number of records, 0 where it is not. */
 void ropeclover_explain(const uint8_t *job, size_t job_len, uint8_t *table, size_t table_len, uint16_t *reasons, size_t reasons_len,
                         const uint8_t *form, size_t form_len, uint8_t *listing, size_t listing_len, uint64_t answer[4]);
 
-/* Writes a code for each of the 64 symbols: 0 named in no rule and not the start, 1 useful, 2 derives no terminal string, 3 derives one but is
- * not reached from the start. The first 65536 bytes of the table are 0 afterwards. answer[2]: whether the language is empty; answer[3]: whether
- * it grows. */
+/* Writes a code for each of the 64 symbols. The table is scratch: its first ROPECLOVER_TABLE_BYTES bytes are 0 afterwards. No I record is needed.
+ * answer[2]: whether the language is empty, so that the start symbol derives no string of terminals; answer[3]: whether it grows, so that some
+ * useful symbol X derives a string with X and more in it, by rules whose symbols are all useful. */
 void ropeclover_verdicts(const uint8_t *job, size_t job_len, uint8_t *table, size_t table_len, uint8_t *codes, size_t codes_len,
                          uint64_t answer[4]);
 

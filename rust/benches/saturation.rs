@@ -4,6 +4,9 @@
 mod datalog;
 #[path = "support/jobs.rs"]
 mod jobs;
+#[allow(dead_code)]
+#[path = "../src/random.rs"]
+mod random;
 #[path = "support/worklist.rs"]
 mod worklist;
 

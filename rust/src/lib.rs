@@ -1,187 +1,119 @@
-//! Ropeclover tells what a context-free grammar can say. This crate is a safe wrapper over the proved library: each function passes the
-//! caller's slices on and turns a refusal into an [`Err`] with a sentence.
+//! Ropeclover tells what a context-free grammar can say: which symbols are useless, whether the language is empty or grows, whether a form
+//! leads into a given automaton, and step by step why. This crate is a safe wrapper over the proved library: each function passes the
+//! caller's slices on, and a refused call is an [`Err`] that says what to mend and where.
 //!
 //! ```
-//! use ropeclover::{text, Workspace};
+//! use ropeclover::{text, Refusal, Workspace};
 //!
-//! // S → a | A A, A → S A | b, and an automaton that reads (ab)* a.. : the job of the report.
+//! // A command is the letter F and digits; the automaton is a chain that reads one recorded command, F 1 4.
 //! let job = text::assemble(
-//!     "S 0 0 0\nU 0 32 0\nP 0 1 1\nP 1 0 1\nU 1 33 0\nI 0 0 0\nF 2 0 0\nT 0 32 1\nT 1 33 2\nT 2 32 1\n",
+//!     r#"
+//!     name 0 command
+//!     name 1 letter
+//!     name 2 digits
+//!     name 3 digit
+//!     name 32 "F"
+//!     name 33 "0-9"
+//!     S command
+//!     P command letter digits
+//!     U letter "F"
+//!     U digits digit
+//!     P digits digit digits
+//!     U digit "0-9"
+//!     I 0
+//!     F 3
+//!     T 0 "F" 1
+//!     T 1 "0-9" 2
+//!     T 2 "0-9" 3
+//!     "#,
 //! )
 //! .unwrap();
-//! let report = Workspace::new().report(&job).unwrap();
-//! assert_eq!((report.states, report.examined, report.joins), (3, 11, 8));
+//!
+//! // What the report says.
+//! let mut workspace = Workspace::new();
+//! let report = workspace.report(&job).unwrap();
 //! assert!(report.start && !report.empty && report.growing);
 //!
+//! // Saturation a counted number of steps at a time.
+//! let mut started = workspace.start(&job).unwrap();
+//! while !started.advance(2).finished {}
+//! assert!(started.finish().ask(&[1, 2]).unwrap());
+//!
+//! // Why the recorded command is one of the grammar's.
+//! let explanation = workspace.explain(&job, &[0]).unwrap();
+//! assert_eq!(explanation.records.last().unwrap().to_string(), "0 0 3 by 0 -> 1 2 at 1");
+//!
 //! // A refused call says what is wrong, and where.
-//! let refusal = Workspace::new().report(&job[..39]).unwrap_err();
-//! assert_eq!((refusal.number, refusal.place), (1, 9));
-//! assert!(refusal.to_string().contains("multiple of 4"));
+//! let refusal = workspace.report(&job[..39]).unwrap_err();
+//! assert_eq!(refusal, Refusal::PartialRecord { records: 9 });
+//! assert_eq!((refusal.number(), refusal.place()), (1, 9));
 //! ```
+//!
+//! The six functions [`start`], [`advance`], [`ask`], [`explain`], [`verdicts`] and [`show_refused`] are the library's, on lent memory;
+//! [`Workspace`] owns such memory and knows what it holds. [`text`] reads and writes jobs as text.
+#![deny(missing_docs)]
+
+mod calls;
 mod ffi;
+pub mod format;
 pub mod listing;
+mod random;
 mod refusal;
+mod saturation;
+mod sequence;
+mod shuffle;
 pub mod text;
 mod workspace;
 
-pub use refusal::Refusal;
+pub use calls::{advance, ask, explain, show_refused, start, verdicts, Advanced, Explained, Verdicts};
+pub use refusal::{Buffer, Refusal};
+pub use saturation::{Finished, Started};
+pub use shuffle::shuffled;
 pub use workspace::{Explanation, Report, Workspace};
 
 /// The bytes of a table that are read and written.
+///
+/// ```
+/// assert_eq!(ropeclover::Workspace::new().table().len(), ropeclover::TABLE_BYTES);
+/// ```
 pub const TABLE_BYTES: usize = 65_536;
+
 /// The reasons that are read and written.
+///
+/// ```
+/// assert_eq!(ropeclover::Workspace::new().reasons().len(), ropeclover::REASONS);
+/// ```
 pub const REASONS: usize = 32_768;
+
 /// The codes, one for each symbol.
+///
+/// ```
+/// let mut codes = [0; ropeclover::CODES];
+/// ropeclover::verdicts(b"S\0\0\0", &mut [0; ropeclover::TABLE_BYTES], &mut codes).unwrap();
+/// assert_eq!(codes[0], 2);
+/// ```
 pub const CODES: usize = 64;
 
-/// What [`advance`] answers.
-#[derive(Clone, Copy, Debug, PartialEq, Eq)]
-pub struct Advanced {
-    /// Whether no pending transition is left.
-    pub finished: bool,
-    /// The steps made.
-    pub steps: u64,
-    /// The rise in pair meetings of the done transitions.
-    pub meetings: u64,
-}
+/// The longest job in bytes: 4,096 records.
+///
+/// ```
+/// let refusal = ropeclover::Workspace::new().report(&[0; ropeclover::JOB_BYTES + 4]).unwrap_err();
+/// assert_eq!(refusal.number(), 2);
+/// ```
+pub const JOB_BYTES: usize = 16_384;
 
-/// What [`explain`] answers.
-#[derive(Clone, Copy, Debug, PartialEq, Eq)]
-pub struct Explained {
-    /// Whether the form is accepted.
-    pub accepted: bool,
-    /// The listing records written, 8 bytes each.
-    pub records: usize,
-}
+/// The longest form in symbols.
+///
+/// ```
+/// let job = ropeclover::text::assemble("S 0\nI 0\n").unwrap();
+/// let form = [0; ropeclover::FORM_SYMBOLS + 1];
+/// assert_eq!(ropeclover::Workspace::new().explain(&job, &form).unwrap_err().number(), 12);
+/// ```
+pub const FORM_SYMBOLS: usize = 64;
 
-/// What [`verdicts`] answers.
-#[derive(Clone, Copy, Debug, PartialEq, Eq)]
-pub struct Verdicts {
-    /// Whether the start symbol derives no terminal string.
-    pub empty: bool,
-    /// Whether some useful symbol derives itself with more around it.
-    pub growing: bool,
-}
-
-fn refused(answer: &[u64]) -> Result<(), Refusal> {
-    match answer[0] {
-        0 => Ok(()),
-        number => Err(Refusal { number, place: answer[1] }),
-    }
-}
-
-/// Writes the table and the reasons that the job starts from, and returns its number of states.
-pub fn start(job: &[u8], table: &mut [u8], reasons: &mut [u16]) -> Result<usize, Refusal> {
-    let mut answer = [0u64; 3];
-    // SAFETY: each pointer comes with its slice's length, the slices are disjoint, and `answer` has the three numbers that are written.
-    unsafe {
-        ffi::ropeclover_start(
-            job.as_ptr(),
-            job.len(),
-            table.as_mut_ptr(),
-            table.len(),
-            reasons.as_mut_ptr(),
-            reasons.len(),
-            answer.as_mut_ptr(),
-        )
-    };
-    refused(&answer)?;
-    Ok(answer[2] as usize)
-}
-
-/// Makes at most `n` steps on a table, whatever it holds.
-pub fn advance(job: &[u8], table: &mut [u8], reasons: &mut [u16], n: u64) -> Result<Advanced, Refusal> {
-    let mut answer = [0u64; 5];
-    // SAFETY: as in `start`; five numbers are written.
-    unsafe {
-        ffi::ropeclover_advance(
-            job.as_ptr(),
-            job.len(),
-            table.as_mut_ptr(),
-            table.len(),
-            reasons.as_mut_ptr(),
-            reasons.len(),
-            n,
-            answer.as_mut_ptr(),
-        )
-    };
-    refused(&answer)?;
-    Ok(Advanced { finished: answer[2] == 1, steps: answer[3], meetings: answer[4] })
-}
-
-/// Whether a form is accepted on a table: it leads from the initial state to a final one over the done transitions.
-pub fn ask(job: &[u8], table: &[u8], form: &[u8]) -> Result<bool, Refusal> {
-    let mut answer = [0u64; 3];
-    // SAFETY: as in `start`; the table is only read.
-    unsafe {
-        ffi::ropeclover_ask(
-            job.as_ptr(),
-            job.len(),
-            table.as_ptr(),
-            table.len(),
-            form.as_ptr(),
-            form.len(),
-            answer.as_mut_ptr(),
-        )
-    };
-    refused(&answer)?;
-    Ok(answer[2] == 1)
-}
-
-/// Starts, runs to the end, and lists step by step why the form is accepted. A listing that is too short is refused with 13 and the number
-/// of records needed; table and reasons are then as after a success.
-pub fn explain(
-    job: &[u8],
-    table: &mut [u8],
-    reasons: &mut [u16],
-    form: &[u8],
-    listing: &mut [u8],
-) -> Result<Explained, Refusal> {
-    let mut answer = [0u64; 4];
-    // SAFETY: as in `start`; four numbers are written.
-    unsafe {
-        ffi::ropeclover_explain(
-            job.as_ptr(),
-            job.len(),
-            table.as_mut_ptr(),
-            table.len(),
-            reasons.as_mut_ptr(),
-            reasons.len(),
-            form.as_ptr(),
-            form.len(),
-            listing.as_mut_ptr(),
-            listing.len(),
-            answer.as_mut_ptr(),
-        )
-    };
-    refused(&answer)?;
-    Ok(Explained { accepted: answer[2] == 1, records: answer[3] as usize })
-}
-
-/// Codes of the 64 symbols, and whether the language is empty and whether it grows. The table is scratch, left 0.
-pub fn verdicts(job: &[u8], table: &mut [u8], codes: &mut [u8]) -> Result<Verdicts, Refusal> {
-    let mut answer = [0u64; 4];
-    // SAFETY: as in `start`; four numbers are written.
-    unsafe {
-        ffi::ropeclover_verdicts(
-            job.as_ptr(),
-            job.len(),
-            table.as_mut_ptr(),
-            table.len(),
-            codes.as_mut_ptr(),
-            codes.len(),
-            answer.as_mut_ptr(),
-        )
-    };
-    refused(&answer)?;
-    Ok(Verdicts { empty: answer[2] == 1, growing: answer[3] == 1 })
-}
-
-/// The four bytes of the record that the job is refused for by 3 to 7, a part of the job itself; else the empty part.
-pub fn show_refused(job: &[u8]) -> &[u8] {
-    let mut answer = [0u64; 2];
-    // SAFETY: as in `start`; two numbers are written.
-    unsafe { ffi::ropeclover_show(job.as_ptr(), job.len(), answer.as_mut_ptr()) };
-    let (at, length) = (answer[0] as usize, answer[1] as usize);
-    &job[at..at + length]
-}
+/// The longest listing in bytes: a record of 8 bytes for each transition.
+///
+/// ```
+/// assert_eq!(ropeclover::LISTING_BYTES, 8 * ropeclover::TABLE_BYTES);
+/// ```
+pub const LISTING_BYTES: usize = 524_288;

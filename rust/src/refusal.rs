@@ -1,37 +1,230 @@
-//! A refused call, in words.
+//! Refused calls, in words.
 use std::fmt;
 
-/// A refused call: the number and the place of the table of refusals.
-#[derive(Clone, Copy, Debug, PartialEq, Eq)]
-pub struct Refusal {
-    /// The number returned, 1 to 13.
-    pub number: u64,
-    /// The place: a record, a position, a length or a buffer, by the number.
-    pub place: u64,
+/// A lent buffer that may be short.
+///
+/// ```
+/// use ropeclover::{start, Buffer, Refusal, REASONS};
+///
+/// let refusal = start(b"", &mut [0; 100], &mut [0; REASONS]).unwrap_err();
+/// assert_eq!(refusal, Refusal::ShortBuffer(Buffer::Table));
+/// ```
+#[derive(Clone, Copy, Debug, PartialEq, Eq, Hash)]
+pub enum Buffer {
+    /// The table, [`TABLE_BYTES`](crate::TABLE_BYTES) long.
+    Table,
+    /// The reasons, [`REASONS`](crate::REASONS) numbers.
+    Reasons,
+    /// The codes, [`CODES`](crate::CODES) long.
+    Codes,
+}
+
+/// Why a call is refused, and where. Each refusal has a number and a place, which the C interface and the command give.
+///
+/// ```
+/// use ropeclover::{text, Refusal, Workspace};
+///
+/// let job = text::assemble("S 0\nI 0\nT 0 64 0\n").unwrap();
+/// let refusal = Workspace::new().report(&job).unwrap_err();
+/// assert_eq!(refusal, Refusal::FieldOutsideClass { record: 2 });
+/// assert_eq!((refusal.number(), refusal.place()), (4, 2));
+/// assert!(refusal.to_string().starts_with("record 2 has a field outside its class"));
+/// ```
+#[derive(Clone, Copy, Debug, PartialEq, Eq, Hash)]
+#[non_exhaustive]
+pub enum Refusal {
+    /// 1: the job's length is no multiple of 4.
+    PartialRecord {
+        /// The whole records before the bytes left over.
+        records: u64,
+    },
+    /// 2: the job has over [`JOB_BYTES`](crate::JOB_BYTES) bytes.
+    JobTooLong {
+        /// The job's length.
+        bytes: u64,
+    },
+    /// 3: an unknown kind byte.
+    UnknownKind {
+        /// The record's number, from 0.
+        record: u64,
+    },
+    /// 4: a field outside its class.
+    FieldOutsideClass {
+        /// The record's number, from 0.
+        record: u64,
+    },
+    /// 5: the same four bytes stand in an earlier record.
+    Repeated {
+        /// The later record's number, from 0.
+        record: u64,
+    },
+    /// 6: a second S or a second I.
+    Second {
+        /// The second one's number, from 0.
+        record: u64,
+    },
+    /// 7: the rule after the last that is taken, the 257th.
+    TooManyRules {
+        /// The record's number, from 0.
+        record: u64,
+    },
+    /// 8: no S record.
+    NoStart {
+        /// The number of records.
+        records: u64,
+    },
+    /// 9: no I record.
+    NoInitial {
+        /// The number of records.
+        records: u64,
+    },
+    /// 10: a lent buffer is short.
+    ShortBuffer(Buffer),
+    /// 11: a byte of the form is no symbol.
+    NoSymbol {
+        /// Its position in the form, from 0.
+        position: u64,
+    },
+    /// 12: the form has over [`FORM_SYMBOLS`](crate::FORM_SYMBOLS) symbols.
+    FormTooLong {
+        /// Its length.
+        symbols: u64,
+    },
+    /// 13: the lent listing is too short.
+    ListingTooShort {
+        /// The listing records needed, 8 bytes each.
+        records: u64,
+    },
+    /// A number that this version of the crate has no name for.
+    Other {
+        /// The number.
+        number: u64,
+        /// The place.
+        place: u64,
+    },
+}
+
+impl Refusal {
+    /// The refusal of a number and a place.
+    ///
+    /// ```
+    /// use ropeclover::Refusal;
+    /// assert_eq!(Refusal::new(8, 0), Refusal::NoStart { records: 0 });
+    /// ```
+    pub fn new(number: u64, place: u64) -> Self {
+        match (number, place) {
+            (1, records) => Refusal::PartialRecord { records },
+            (2, bytes) => Refusal::JobTooLong { bytes },
+            (3, record) => Refusal::UnknownKind { record },
+            (4, record) => Refusal::FieldOutsideClass { record },
+            (5, record) => Refusal::Repeated { record },
+            (6, record) => Refusal::Second { record },
+            (7, record) => Refusal::TooManyRules { record },
+            (8, records) => Refusal::NoStart { records },
+            (9, records) => Refusal::NoInitial { records },
+            (10, 1) => Refusal::ShortBuffer(Buffer::Table),
+            (10, 2) => Refusal::ShortBuffer(Buffer::Reasons),
+            (10, 3) => Refusal::ShortBuffer(Buffer::Codes),
+            (11, position) => Refusal::NoSymbol { position },
+            (12, symbols) => Refusal::FormTooLong { symbols },
+            (13, records) => Refusal::ListingTooShort { records },
+            (number, place) => Refusal::Other { number, place },
+        }
+    }
+
+    /// The number and the place.
+    fn parts(self) -> (u64, u64) {
+        match self {
+            Refusal::PartialRecord { records } => (1, records),
+            Refusal::JobTooLong { bytes } => (2, bytes),
+            Refusal::UnknownKind { record } => (3, record),
+            Refusal::FieldOutsideClass { record } => (4, record),
+            Refusal::Repeated { record } => (5, record),
+            Refusal::Second { record } => (6, record),
+            Refusal::TooManyRules { record } => (7, record),
+            Refusal::NoStart { records } => (8, records),
+            Refusal::NoInitial { records } => (9, records),
+            Refusal::ShortBuffer(Buffer::Table) => (10, 1),
+            Refusal::ShortBuffer(Buffer::Reasons) => (10, 2),
+            Refusal::ShortBuffer(Buffer::Codes) => (10, 3),
+            Refusal::NoSymbol { position } => (11, position),
+            Refusal::FormTooLong { symbols } => (12, symbols),
+            Refusal::ListingTooShort { records } => (13, records),
+            Refusal::Other { number, place } => (number, place),
+        }
+    }
+
+    /// The number, as in the C header.
+    ///
+    /// ```
+    /// use ropeclover::Refusal;
+    /// assert_eq!(Refusal::Repeated { record: 5 }.number(), 5);
+    /// ```
+    pub fn number(self) -> u64 {
+        self.parts().0
+    }
+
+    /// The place: a record, a position, a length, a count or a buffer, by the number.
+    ///
+    /// ```
+    /// use ropeclover::Refusal;
+    /// assert_eq!(Refusal::FormTooLong { symbols: 65 }.place(), 65);
+    /// ```
+    pub fn place(self) -> u64 {
+        self.parts().1
+    }
+
+    /// The record that is refused, by 3 to 7.
+    ///
+    /// ```
+    /// use ropeclover::Refusal;
+    /// assert_eq!(Refusal::UnknownKind { record: 7 }.record(), Some(7));
+    /// assert_eq!(Refusal::NoStart { records: 7 }.record(), None);
+    /// ```
+    pub fn record(self) -> Option<usize> {
+        match self.parts() {
+            (3..=7, record) => usize::try_from(record).ok(),
+            _ => None,
+        }
+    }
 }
 
 impl fmt::Display for Refusal {
     fn fmt(&self, f: &mut fmt::Formatter<'_>) -> fmt::Result {
-        let place = self.place;
-        match self.number {
-            1 => write!(f, "the job's length is not a multiple of 4: bytes are left over after {place} whole records"),
-            2 => write!(f, "the job has {place} bytes; at most 16384 are taken"),
-            3 => write!(f, "record {place} has an unknown kind byte; the kinds are E, U, P, T, I, F and S"),
-            4 => write!(f, "record {place} has a field outside its class (a variable is 0 to 31, a symbol 0 to 63, a state 0 to 31, an unused field 0)"),
-            5 => write!(f, "record {place} repeats an earlier record"),
-            6 => write!(f, "record {place} is a second S or a second I record; there is one of each"),
-            7 => write!(f, "record {place} is the 257th rule; at most 256 are taken"),
-            8 => write!(f, "none of the {place} records is an S record: the start symbol is missing"),
-            9 => write!(f, "none of the {place} records is an I record: the initial state is missing"),
-            10 => match place {
-                1 => write!(f, "the lent table has fewer than 65536 bytes"),
-                2 => write!(f, "the lent reasons are fewer than 32768 numbers"),
-                _ => write!(f, "the lent codes have fewer than 64 bytes"),
-            },
-            11 => write!(f, "the form's byte at position {place} is over 63, so it is no symbol"),
-            12 => write!(f, "the form has {place} symbols; at most 64 are taken"),
-            13 => write!(f, "the lent listing is too short: {place} records of 8 bytes are needed"),
-            n => write!(f, "refused by {n} at {place}"),
+        match self {
+            Refusal::PartialRecord { records } => {
+                write!(f, "the job's length is not a multiple of 4: bytes are left over after {records} whole records")
+            }
+            Refusal::JobTooLong { bytes } => write!(f, "the job has {bytes} bytes; at most 16384 are taken"),
+            Refusal::UnknownKind { record } => {
+                write!(f, "record {record} has an unknown kind byte; the kinds are E, U, P, T, I, F and S")
+            }
+            Refusal::FieldOutsideClass { record } => write!(
+                f,
+                "record {record} has a field outside its class (a variable is 0 to 31, a symbol 0 to 63, a state 0 to 31, an unused field 0)"
+            ),
+            Refusal::Repeated { record } => write!(f, "record {record} repeats an earlier record"),
+            Refusal::Second { record } => {
+                write!(f, "record {record} is a second S or a second I record; there is one of each")
+            }
+            Refusal::TooManyRules { record } => write!(f, "record {record} is the 257th rule; at most 256 are taken"),
+            Refusal::NoStart { records } => {
+                write!(f, "none of the {records} records is an S record: the start symbol is missing")
+            }
+            Refusal::NoInitial { records } => {
+                write!(f, "none of the {records} records is an I record: the initial state is missing")
+            }
+            Refusal::ShortBuffer(Buffer::Table) => write!(f, "the lent table has fewer than 65536 bytes"),
+            Refusal::ShortBuffer(Buffer::Reasons) => write!(f, "the lent reasons are fewer than 32768 numbers"),
+            Refusal::ShortBuffer(Buffer::Codes) => write!(f, "the lent codes have fewer than 64 bytes"),
+            Refusal::NoSymbol { position } => {
+                write!(f, "the form's byte at position {position} is over 63, so it is no symbol")
+            }
+            Refusal::FormTooLong { symbols } => write!(f, "the form has {symbols} symbols; at most 64 are taken"),
+            Refusal::ListingTooShort { records } => {
+                write!(f, "the lent listing is too short: {records} records of 8 bytes are needed")
+            }
+            Refusal::Other { number, place } => write!(f, "refused by {number} at {place}"),
         }
     }
 }

@@ -1,21 +1,40 @@
-//! The lent memory, owned: a table and reasons that calls share.
-use crate::listing::Record;
-use crate::{advance, ask, explain, start, verdicts, Advanced, Refusal, Verdicts, CODES, REASONS, TABLE_BYTES};
+//! Owned memory for the library's calls, and types that say what it holds.
+use crate::format::start_symbol;
+use crate::listing::{Record, Transition};
+use crate::{explain, sequence, start, verdicts, Refusal, Started, Verdicts, CODES, REASONS, TABLE_BYTES};
+use std::fmt;
 
-/// A table and reasons of the right lengths.
+/// A table and reasons of the right lengths. [`start`](Workspace::start) gives a [`Started`], which becomes a
+/// [`Finished`](crate::Finished), and only that can be asked.
+///
+/// ```
+/// use ropeclover::{text, Workspace};
+///
+/// let job = text::assemble("S 0\nU 0 32\nI 0\nF 1\nT 0 32 1\n").unwrap();
+/// let mut workspace = Workspace::new();
+/// assert!(workspace.start(&job).unwrap().finish().ask(&[0]).unwrap());
+/// assert_eq!(format!("{workspace:?}"), "Workspace { pending: 0, done: 2, listed: 0 }");
+/// ```
+#[derive(Clone, PartialEq, Eq)]
 pub struct Workspace {
-    table: Vec<u8>,
-    reasons: Vec<u16>,
+    pub(crate) table: Vec<u8>,
+    pub(crate) reasons: Vec<u16>,
 }
 
 /// What the report prints.
+///
+/// ```
+/// let job = ropeclover::text::assemble("S 0\nE 0\nI 0\nF 0\n").unwrap();
+/// let report: ropeclover::Report = ropeclover::Workspace::new().report(&job).unwrap();
+/// assert_eq!((report.states, report.examined, report.joins), (1, 1, 0));
+/// ```
 #[derive(Clone, Copy, Debug, PartialEq, Eq)]
 pub struct Report {
-    /// The number of states.
+    /// The number of states: one more than the largest in a T, I or F record.
     pub states: usize,
-    /// The transitions of the smallest set.
+    /// The transitions of the smallest set that holds the given ones and is closed under the rules.
     pub examined: u64,
-    /// Its pair meetings.
+    /// Its pair meetings: the ways a pair rule meets two adjoining transitions.
     pub joins: u64,
     /// Whether the start symbol alone is accepted.
     pub start: bool,
@@ -26,12 +45,37 @@ pub struct Report {
 }
 
 /// An explained form.
+///
+/// ```
+/// let job = ropeclover::text::assemble("S 0\nU 0 32\nI 0\nF 0\nT 0 32 0\n").unwrap();
+/// let explanation: ropeclover::Explanation = ropeclover::Workspace::new().explain(&job, &[32, 0]).unwrap();
+/// assert_eq!(explanation.sequence, [0, 0, 0]);
+/// assert_eq!(explanation.steps(), [(0, 32, 0), (0, 0, 0)]);
+/// ```
 #[derive(Clone, Debug, PartialEq, Eq)]
 pub struct Explanation {
     /// Whether the form is accepted.
     pub accepted: bool,
+    /// The form.
+    pub form: Vec<u8>,
+    /// The accepting states, one more than the form has symbols: the sequence that comes first in lexicographic order. Empty where the form is
+    /// not accepted.
+    pub sequence: Vec<u8>,
     /// Why: each record after its premises. Empty where the form is not accepted.
     pub records: Vec<Record>,
+}
+
+impl Explanation {
+    /// The transitions along the accepting sequence, one for each symbol of the form; none where it is not accepted.
+    ///
+    /// ```
+    /// let job = ropeclover::text::assemble("S 0\nI 0\n").unwrap();
+    /// assert!(ropeclover::Workspace::new().explain(&job, &[0]).unwrap().steps().is_empty());
+    /// ```
+    pub fn steps(&self) -> Vec<Transition> {
+        let pairs = self.sequence.iter().zip(self.sequence.iter().skip(1));
+        pairs.zip(&self.form).map(|((from, to), symbol)| (*from, *symbol, *to)).collect()
+    }
 }
 
 impl Default for Workspace {
@@ -40,76 +84,127 @@ impl Default for Workspace {
     }
 }
 
+/// Counts of the table's bytes; the memory itself is too long to print.
+impl fmt::Debug for Workspace {
+    fn fmt(&self, f: &mut fmt::Formatter<'_>) -> fmt::Result {
+        let count = |value: u8| self.table.iter().filter(|byte| **byte == value).count();
+        f.debug_struct("Workspace")
+            .field("pending", &count(1))
+            .field("done", &count(2))
+            .field("listed", &count(3))
+            .finish()
+    }
+}
+
 impl Workspace {
     /// A table and reasons, all 0.
+    ///
+    /// ```
+    /// assert!(ropeclover::Workspace::new().table().iter().all(|byte| *byte == 0));
+    /// ```
     pub fn new() -> Self {
         Workspace { table: vec![0; TABLE_BYTES], reasons: vec![0; REASONS] }
     }
 
-    /// The table, a byte for each transition.
+    /// The table, a byte for each transition (q, X, r) at q × 2048 + X × 32 + r: 0 absent, 1 pending, 2 done, 3 done and listed.
+    ///
+    /// ```
+    /// let mut workspace = ropeclover::Workspace::new();
+    /// workspace.start(b"S\0\0\0I\0\0\0T\0\x20\x01").unwrap();
+    /// assert_eq!(workspace.table()[32 * 32 + 1], 1);
+    /// ```
     pub fn table(&self) -> &[u8] {
         &self.table
     }
 
-    /// The reasons, a number for each transition of a variable.
+    /// The reasons, a number for each transition (q, A, r) of a variable at q × 1024 + A × 32 + r: 0 none, 65535 given, else 1 + 32 × rank +
+    /// middle state.
+    ///
+    /// ```
+    /// let mut workspace = ropeclover::Workspace::new();
+    /// workspace.start(b"S\0\0\0I\0\0\0T\0\x03\x01").unwrap();
+    /// assert_eq!(workspace.reasons()[3 * 32 + 1], 65_535);
+    /// ```
     pub fn reasons(&self) -> &[u16] {
         &self.reasons
     }
 
-    /// [`start`] on this memory.
-    pub fn start(&mut self, job: &[u8]) -> Result<usize, Refusal> {
-        start(job, &mut self.table, &mut self.reasons)
+    /// Starts a job: the memory holds the table and reasons that it starts from.
+    ///
+    /// ```
+    /// let mut workspace = ropeclover::Workspace::new();
+    /// assert_eq!(workspace.start(b"S\0\0\0I\x02\0\0").unwrap().states(), 3);
+    /// assert_eq!(workspace.start(b"").unwrap_err().number(), 8);
+    /// ```
+    ///
+    /// # Errors
+    /// Refusals 1 to 9; the memory is left as it was.
+    pub fn start<'a>(&'a mut self, job: &'a [u8]) -> Result<Started<'a>, Refusal> {
+        let states = start(job, &mut self.table, &mut self.reasons)?;
+        Ok(Started::new(self, job, states))
     }
 
-    /// [`advance`] on this memory.
-    pub fn advance(&mut self, job: &[u8], n: u64) -> Result<Advanced, Refusal> {
-        advance(job, &mut self.table, &mut self.reasons, n)
-    }
-
-    /// [`ask`] on this memory.
-    pub fn ask(&self, job: &[u8], form: &[u8]) -> Result<bool, Refusal> {
-        ask(job, &self.table, form)
-    }
-
-    /// [`verdicts`] and the codes; the table is left 0.
+    /// The verdicts and a code for each symbol. The table is left 0, the reasons as they were.
+    ///
+    /// ```
+    /// let (verdicts, codes) = ropeclover::Workspace::new().verdicts(b"S\0\0\0U\0\x20\0").unwrap();
+    /// assert!(!verdicts.empty);
+    /// assert_eq!((codes[0], codes[32], codes[33]), (1, 1, 0));
+    /// ```
+    ///
+    /// # Errors
+    /// Refusals 1 to 8; the memory is left as it was.
     pub fn verdicts(&mut self, job: &[u8]) -> Result<(Verdicts, [u8; CODES]), Refusal> {
         let mut codes = [0; CODES];
         let verdicts = verdicts(job, &mut self.table, &mut codes)?;
         Ok((verdicts, codes))
     }
 
-    /// [`explain`] with a listing as long as it needs.
+    /// Explains a form, with a listing as long as it needs. The memory holds the finished table afterwards, listed transitions as 3.
+    ///
+    /// ```
+    /// let job = ropeclover::text::assemble("S 0\nU 0 32\nI 0\nF 1\nT 0 32 1\n").unwrap();
+    /// let explanation = ropeclover::Workspace::new().explain(&job, &[0]).unwrap();
+    /// assert!(explanation.accepted);
+    /// assert_eq!(explanation.sequence, [0, 1]);
+    /// assert_eq!(explanation.records.len(), 2);
+    /// ```
+    ///
+    /// # Errors
+    /// Refusals 1 to 9, 12 and 11; the memory is left as it was.
     pub fn explain(&mut self, job: &[u8], form: &[u8]) -> Result<Explanation, Refusal> {
         let mut listing = Vec::new();
         let explained = match explain(job, &mut self.table, &mut self.reasons, form, &mut listing) {
-            Err(Refusal { number: 13, place }) => {
-                listing.resize(8 * place as usize, 0);
+            Err(Refusal::ListingTooShort { records }) => {
+                listing.resize(8 * records as usize, 0);
                 explain(job, &mut self.table, &mut self.reasons, form, &mut listing)?
             }
             other => other?,
         };
-        let records = listing.chunks_exact(8).take(explained.records).map(Record::from_bytes).collect();
-        Ok(Explanation { accepted: explained.accepted, records })
+        let accepted = explained.accepted;
+        let sequence = if accepted { sequence::first(job, &self.table, form).unwrap_or_default() } else { Vec::new() };
+        let records = listing.chunks_exact(8).take(explained.records).filter_map(Record::from_bytes).collect();
+        Ok(Explanation { accepted, form: form.to_vec(), sequence, records })
     }
 
-    /// The six lines of the report.
+    /// What the report prints. Afterwards the table is 0, as the verdicts leave it, and the reasons are those of the finished table: start again
+    /// to ask.
+    ///
+    /// ```
+    /// let job = ropeclover::text::assemble("S 0\nU 0 32\nI 0\nF 1\nT 0 32 1\n").unwrap();
+    /// let mut workspace = ropeclover::Workspace::new();
+    /// let report = workspace.report(&job).unwrap();
+    /// assert!(report.start && !report.empty && !report.growing);
+    /// assert!(workspace.table().iter().all(|byte| *byte == 0));
+    /// ```
+    ///
+    /// # Errors
+    /// Refusals 1 to 9; the memory is left as it was.
     pub fn report(&mut self, job: &[u8]) -> Result<Report, Refusal> {
-        let states = self.start(job)?;
-        let advanced = self.advance(job, u64::MAX)?;
-        let start = self.ask(job, &start_form(job))?;
+        let finished = self.start(job)?.finish();
+        let (states, examined, joins) = (finished.states(), finished.examined(), finished.joins());
+        let start = finished.ask(&start_symbol(job).into_iter().collect::<Vec<u8>>())?;
         let (verdicts, _) = self.verdicts(job)?;
-        Ok(Report {
-            states,
-            examined: advanced.steps,
-            joins: advanced.meetings,
-            start,
-            empty: verdicts.empty,
-            growing: verdicts.growing,
-        })
+        Ok(Report { states, examined, joins, start, empty: verdicts.empty, growing: verdicts.growing })
     }
-}
-
-/// The one-symbol form of the start symbol.
-fn start_form(job: &[u8]) -> Vec<u8> {
-    job.chunks_exact(4).filter(|record| record[0] == b'S').map(|record| record[1]).take(1).collect()
 }

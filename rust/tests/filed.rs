@@ -1,4 +1,4 @@
-//! Document 01's grammars on file and its limits, run through the wrapper, with the answers written in the document.
+//! The grammars on file and the limits, run through the wrapper, with the answers written in the specification.
 use ropeclover::{text::assemble, Workspace};
 
 fn report(text: &str) -> (usize, u64, u64, bool, bool, bool) {
@@ -13,35 +13,33 @@ fn codes(text: &str) -> (bool, bool, Vec<u8>) {
 
 fn refused(job: &[u8]) -> (u64, u64) {
     let refusal = Workspace::new().report(job).unwrap_err();
-    (refusal.number, refusal.place)
+    (refusal.number(), refusal.place())
 }
 
 const REPORT: &str = "S 0\nU 0 32\nP 0 1 1\nP 1 0 1\nU 1 33\nI 0\nF 2\nT 0 32 1\nT 1 33 2\nT 2 32 1\n";
 
 #[test]
-fn the_report_of_the_document() {
+fn the_report_of_the_specification() {
     assert_eq!(report(REPORT), (3, 11, 8, true, false, true));
 }
 
 #[test]
 fn baabab() {
-    // 001: A 0, B 1, C 2, D 3, S 4, T 5, X 6, a 32, b 33
+    // A 0, B 1, C 2, D 3, S 4, T 5, X 6, a 32, b 33
     let grammar = "S 4\nP 4 5 5\nP 4 0 2\nP 5 0 2\nP 5 3 0\nP 5 0 1\nP 5 1 0\nP 2 6 1\nP 3 1 6\nP 6 5 5\nP 6 0 1\nP 6 1 0\nU 0 32\nU 1 33\n";
     let chain = "I 0\nF 6\nT 0 33 1\nT 1 32 2\nT 2 32 3\nT 3 33 4\nT 4 32 5\nT 5 33 6\n";
     let job = assemble(&format!("{grammar}{chain}")).unwrap();
     let mut workspace = Workspace::new();
-    assert_eq!(workspace.start(&job).unwrap(), 7);
-    assert_eq!(workspace.advance(&job, u64::MAX).unwrap().steps, 29);
-    let leads = |q: usize, r: usize| -> Vec<usize> {
-        (0..32).filter(|a| workspace.table()[q * 2048 + a * 32 + r] == 2).collect()
-    };
+    let finished = workspace.start(&job).unwrap().finish();
+    assert_eq!((finished.states(), finished.examined()), (7, 29));
+    let leads = |q: u8, r: u8| -> Vec<u8> { (0..32).filter(|a| finished.holds((q, *a, r))).collect() };
     assert_eq!(leads(0, 6), vec![4, 6]);
-    assert_eq!(leads(1, 3), Vec::<usize>::new());
+    assert_eq!(leads(1, 3), Vec::<u8>::new());
 }
 
 #[test]
 fn verdicts_of_the_filed_grammars() {
-    // 003, 25.5 and 25.6: S 0, A 1, B 2, C 3, a 32, b 33, c 34
+    // Two grammars, of which the second grows: S 0, A 1, B 2, C 3, a 32, b 33, c 34
     let (_, growing, _) = codes("S 0\nP 0 1 2\nP 1 2 3\nU 1 32\nU 2 33\nU 3 34\n");
     assert!(!growing);
     let (_, growing, found) = codes("S 0\nP 0 1 2\nP 1 2 0\nU 1 32\nU 2 33\nU 3 34\n");
@@ -101,7 +99,7 @@ fn limits() {
     let job = assemble(REPORT).unwrap();
     assert!(Workspace::new().explain(&job, &[63; 64]).is_ok());
     let refusal = Workspace::new().explain(&job, &[0; 65]).unwrap_err();
-    assert_eq!((refusal.number, refusal.place), (12, 65));
+    assert_eq!((refusal.number(), refusal.place()), (12, 65));
     let refusal = Workspace::new().explain(&job, &[0, 63, 64]).unwrap_err();
-    assert_eq!((refusal.number, refusal.place), (11, 2));
+    assert_eq!((refusal.number(), refusal.place()), (11, 2));
 }

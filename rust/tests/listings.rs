@@ -3,7 +3,7 @@
 mod support;
 
 use ropeclover::listing::{Reason, Record, Transition};
-use ropeclover::Workspace;
+use ropeclover::{Explanation, Workspace};
 use std::collections::HashMap;
 use support::{jobs, seed};
 
@@ -37,15 +37,21 @@ fn replay(job: &[u8], records: &[Record]) -> HashMap<Transition, Vec<u8>> {
 fn reads(job: &[u8], from: u8, string: &[u8], to: u8) -> bool {
     let mut states = vec![from];
     for x in string {
-        states = job
-            .chunks(4)
-            .filter(|r| r[0] == b'T' && r[2] == *x && states.contains(&r[1]))
-            .map(|r| r[3])
-            .collect();
+        states = job.chunks(4).filter(|r| r[0] == b'T' && r[2] == *x && states.contains(&r[1])).map(|r| r[3]).collect();
         states.sort();
         states.dedup();
     }
     states.contains(&to)
+}
+
+/// The sequence goes from the initial state to a final one, by transitions that are listed.
+fn sequence_is_listed(job: &[u8], explanation: &Explanation) {
+    let is = |kind: u8, state: &u8| job.chunks(4).any(|r| r[0] == kind && r[1] == *state);
+    assert_eq!(explanation.sequence.len(), if explanation.accepted { explanation.form.len() + 1 } else { 0 });
+    assert!(explanation.sequence.first().map_or(true, |state| is(b'I', state)));
+    assert!(explanation.sequence.last().map_or(true, |state| is(b'F', state)));
+    let listed: Vec<Transition> = explanation.records.iter().map(|record| record.transition).collect();
+    assert!(explanation.steps().iter().all(|step| listed.contains(step)));
 }
 
 #[test]
@@ -64,6 +70,7 @@ fn listings_replay_into_derivations() {
             }
         }
         accepted += explanation.accepted as usize;
+        sequence_is_listed(&job, &explanation);
         let listed = workspace.table().iter().filter(|byte| **byte == 3).count();
         assert_eq!(listed, explanation.records.len());
     }
@@ -93,7 +100,6 @@ fn a_long_chain_of_reasons_needs_no_stack() {
         .join()
         .unwrap();
     let (job, explanation) = explanation;
-    println!("{} records", explanation.records.len());
     assert!(explanation.records.len() > 20_000);
     replay(&job, &explanation.records);
 }

@@ -2,10 +2,10 @@
 //! damaged jobs. Answers, tables, reasons, listings and codes are compared byte for byte; buffers stand between guards.
 mod support;
 
-use support::{jobs, machine, seed, Guarded, Random};
+use support::{jobs, machine, seed, Guarded, Random, ToldOnFailure};
 
 fn refusal<T>(result: Result<T, ropeclover::Refusal>) -> Result<T, machine::Refused> {
-    result.map_err(|r| (r.number, r.place))
+    result.map_err(|r| (r.number(), r.place()))
 }
 
 /// A length now and then a little short, now and then longer than is used.
@@ -101,8 +101,7 @@ impl Run {
             &form,
             listing.get_mut(),
         ));
-        let expected =
-            machine::explain(&self.job, &mut self.expected_table, &mut self.expected_reasons, &form, &mut l);
+        let expected = machine::explain(&self.job, &mut self.expected_table, &mut self.expected_reasons, &form, &mut l);
         assert_eq!(found.map(|e| (e.accepted, e.records as u64)), expected);
         assert_eq!(listing.get(), &l[..], "listing");
         listing.check();
@@ -120,10 +119,9 @@ impl Run {
 fn random_lists_of_calls() {
     let mut random = seed("random_lists_of_calls");
     for _ in 0..400 {
-        let before = random.0;
+        let _told = ToldOnFailure(format!("list of calls from seed {}", random.seed()));
         let mut run = Run::new(&mut random);
         for _ in 0..1 + random.below(7) {
-            println!("list of calls from seed {before}");
             run.call(&mut random);
         }
     }

@@ -1,4 +1,4 @@
-//! Start and advance on document 01's jobs, step by step, and on tables that no start wrote.
+//! Start and advance on jobs worked by hand, step by step, and on tables that no start wrote.
 use ropeclover::{advance, start, text::assemble, Refusal, Workspace};
 
 const REPORT: &str = "S 0\nU 0 32\nP 0 1 1\nP 1 0 1\nU 1 33\nI 0\nF 2\nT 0 32 1\nT 1 33 2\nT 2 32 1\n";
@@ -7,7 +7,7 @@ fn done(table: &[u8]) -> usize {
     table.iter().filter(|byte| matches!(byte, 2 | 3)).count()
 }
 
-/// The order by hand from document 01: at each step the lowest pending place q·2048 + X·32 + r is taken. Beside each transition the rise in
+/// The order by hand: at each step the lowest pending place q·2048 + X·32 + r is taken. Beside each transition the rise in
 /// pair meetings.
 const STEPS: [((usize, usize, usize), u64); 11] = [
     ((0, 32, 1), 0),
@@ -27,23 +27,24 @@ const STEPS: [((usize, usize, usize), u64); 11] = [
 fn the_report_step_by_step() {
     let job = assemble(REPORT).unwrap();
     let mut workspace = Workspace::new();
-    assert_eq!(workspace.start(&job), Ok(3));
+    let mut started = workspace.start(&job).unwrap();
+    assert_eq!(started.states(), 3);
     for (number, ((q, x, r), rise)) in STEPS.iter().enumerate() {
-        assert_eq!(workspace.table()[q * 2048 + x * 32 + r], 1, "step {number}");
-        let advanced = workspace.advance(&job, 1).unwrap();
+        assert_eq!(started.memory().table()[q * 2048 + x * 32 + r], 1, "step {number}");
+        let advanced = started.advance(1);
         assert_eq!((advanced.steps, advanced.meetings), (1, *rise), "step {number}");
         assert_eq!(advanced.finished, number == 10, "step {number}");
-        assert_eq!(workspace.table()[q * 2048 + x * 32 + r], 2, "step {number}");
-        assert_eq!(done(workspace.table()), number + 1);
+        assert_eq!(started.memory().table()[q * 2048 + x * 32 + r], 2, "step {number}");
+        assert_eq!(done(started.memory().table()), number + 1);
         // The same in one go from a fresh start.
         let mut fresh = Workspace::new();
-        fresh.start(&job).unwrap();
-        let prefix = fresh.advance(&job, number as u64 + 1).unwrap();
+        let mut fresh = fresh.start(&job).unwrap();
+        let prefix = fresh.advance(number as u64 + 1);
         assert_eq!(prefix.steps, number as u64 + 1);
         assert_eq!(prefix.meetings, STEPS[..=number].iter().map(|step| step.1).sum::<u64>());
-        assert!(fresh.table() == workspace.table() && fresh.reasons() == workspace.reasons());
+        assert!(fresh.memory() == started.memory());
     }
-    let more = workspace.advance(&job, u64::MAX).unwrap();
+    let more = started.advance(u64::MAX);
     assert_eq!((more.finished, more.steps, more.meetings), (true, 0, 0));
     // Reasons: given ones have none in this table of variables; (0, 1, 2) came by rule 2 (P 1 0 1) with middle 1.
     assert_eq!(workspace.reasons()[32 + 2], 1 + 32 * 2 + 1);
@@ -79,7 +80,7 @@ fn short_buffers_are_left_alone() {
     let job = assemble(REPORT).unwrap();
     for (bytes, numbers, place) in [(65_535, 32_768, 1), (0, 0, 1), (65_536, 32_767, 2), (65_536, 0, 2)] {
         let (mut table, mut reasons) = (vec![9; bytes], vec![9; numbers]);
-        let refusal = Refusal { number: 10, place };
+        let refusal = Refusal::new(10, place);
         assert_eq!(start(&job, &mut table, &mut reasons), Err(refusal));
         assert_eq!(advance(&job, &mut table, &mut reasons, 3), Err(refusal));
         // Row 10 comes before a job that is wrong too.

@@ -1,4 +1,4 @@
-//! Demand 3 at work: the same list of calls on a job and on its records in another order, refused calls included.
+//! The same list of calls on a job and on its records in another order, refused calls included.
 mod support;
 
 use ropeclover::{advance, ask, explain, start, verdicts};
@@ -40,6 +40,6 @@ fn plain_and_shuffled_runs_are_alike() {
         let tables = if random.one_in(12) { 65_535 } else { 65_536 };
         let reasons = if random.one_in(12) { 32_767 } else { 32_768 };
         let calls = random.next();
-        assert_eq!(run(&job, Random(calls), tables, reasons), run(&other, Random(calls), tables, reasons));
+        assert_eq!(run(&job, Random::new(calls), tables, reasons), run(&other, Random::new(calls), tables, reasons));
     }
 }

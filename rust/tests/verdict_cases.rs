@@ -1,4 +1,4 @@
-//! Verdicts on document 01's traps and limits.
+//! Verdicts where other checkers go wrong, and at the limits.
 use ropeclover::{text::assemble, verdicts, Refusal};
 
 fn judge(text: &str) -> (bool, bool, Vec<u8>) {
@@ -8,7 +8,7 @@ fn judge(text: &str) -> (bool, bool, Vec<u8>) {
     (found.empty, found.growing, codes)
 }
 
-/// "Finding useful symbols by walking rule bodies from the start before unproductive rules are gone: A in S -> AB".
+/// In S -> A B with no rule for B, a walk over rule bodies from the start would call A useful.
 #[test]
 fn a_symbol_beside_an_unproductive_one_is_useless() {
     let (empty, growing, codes) = judge("S 0\nP 0 1 2\nU 1 32\n");
@@ -63,7 +63,7 @@ fn codes_buffers() {
         let (mut table, mut codes) = (vec![1; 65_540], vec![9; length]);
         let found = verdicts(&job, &mut table, &mut codes);
         if length < 64 {
-            assert_eq!(found, Err(Refusal { number: 10, place: 3 }));
+            assert_eq!(found, Err(Refusal::new(10, 3)));
             assert!(codes.iter().all(|code| *code == 9) && table.iter().all(|byte| *byte == 1));
         } else {
             assert!(found.is_ok());
@@ -72,5 +72,5 @@ fn codes_buffers() {
         }
     }
     // A short table is told first; no I is needed.
-    assert_eq!(verdicts(&job, &mut [0; 9], &mut [0; 9]), Err(Refusal { number: 10, place: 1 }));
+    assert_eq!(verdicts(&job, &mut [0; 9], &mut [0; 9]), Err(Refusal::new(10, 1)));
 }

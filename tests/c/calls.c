@@ -1,4 +1,4 @@
-/* Calls each function of the library from C, on the job of document 01's report and on refused ones. Prints 'N passed, M failed'. */
+/* Calls each function of the library from C, on the specification's job and on refused ones. Prints 'N passed, M failed'. */
 #include "ropeclover.h"
 
 #include <stdio.h>
@@ -56,7 +56,7 @@ static void explains(void)
     same("listing", (uint64_t)memcmp(listing, expected, sizeof expected), 0);
     same("past the listing", listing[16], 7);
     ropeclover_explain(job, sizeof job, table, sizeof table, reasons, ROPECLOVER_REASONS, form, 2, listing, 15, answer);
-    same("short listing", answer[0], 13);
+    same("short listing", answer[0], ROPECLOVER_LISTING_TOO_SHORT);
     same("records needed", answer[1], 2);
 }
 
@@ -67,8 +67,8 @@ static void judges(void)
     ropeclover_verdicts(job, sizeof job, table, sizeof table, codes, sizeof codes, answer);
     same("empty", answer[2], 0);
     same("growing", answer[3], 1);
-    same("code of a variable", codes[1], 1);
-    same("code of an unnamed symbol", codes[63], 0);
+    same("code of a variable", codes[1], ROPECLOVER_USEFUL);
+    same("code of an unnamed symbol", codes[63], ROPECLOVER_NOT_NAMED);
     same("table is cleared", table[32 * 1 + 1], 0);
 }
 
@@ -92,12 +92,75 @@ static void refuses(void)
     same("nothing to show", answer[1], 0);
 }
 
+/* Each refusal of a job by its name in the header. */
+static void names_refusals(void)
+{
+    static const struct {
+        uint8_t job[12];
+        size_t length;
+        uint64_t number, place;
+    } cases[] = {
+        {{'S', 0, 0}, 3, ROPECLOVER_PARTIAL_RECORD, 0},
+        {{'S', 0, 0, 0, 'Q', 0, 0, 0}, 8, ROPECLOVER_UNKNOWN_KIND, 1},
+        {{'S', ROPECLOVER_VARIABLES, 0, 0}, 4, ROPECLOVER_FIELD_OUTSIDE_CLASS, 0},
+        {{'U', 0, ROPECLOVER_SYMBOLS, 0}, 4, ROPECLOVER_FIELD_OUTSIDE_CLASS, 0},
+        {{'I', ROPECLOVER_STATES, 0, 0}, 4, ROPECLOVER_FIELD_OUTSIDE_CLASS, 0},
+        {{'I', 0, 0, 0, 'S', 0, 0, 0, 'S', 0, 0, 0}, 12, ROPECLOVER_REPEATED, 2},
+        {{'I', 0, 0, 0, 'S', 0, 0, 0, 'S', 1, 0, 0}, 12, ROPECLOVER_SECOND, 2},
+        {{'I', 0, 0, 0}, 4, ROPECLOVER_NO_START, 1},
+        {{'S', 0, 0, 0}, 4, ROPECLOVER_NO_INITIAL, 1},
+        {{'S', 0, 0, 0, 'I', 0, 0, 0}, 8, ROPECLOVER_ACCEPTED, 0},
+    };
+    uint64_t answer[3];
+    for (size_t i = 0; i < sizeof cases / sizeof cases[0]; i++) {
+        ropeclover_start(cases[i].job, cases[i].length, table, sizeof table, reasons, ROPECLOVER_REASONS, answer);
+        same("number of a refusal", answer[0], cases[i].number);
+        same("place of a refusal", answer[1], cases[i].place);
+    }
+}
+
+/* The limits that the header names are those of the library. */
+static void has_limits(void)
+{
+    static uint8_t records[ROPECLOVER_JOB_BYTES + 4] = {'S', 0, 0, 0, 'I', 0, 0, 0};
+    static uint8_t rules[4 * (ROPECLOVER_RULES + 3)] = {'S', 0, 0, 0, 'I', 0, 0, 0};
+    static uint8_t form[ROPECLOVER_FORM_SYMBOLS + 1];
+    uint64_t answer[3];
+    for (size_t i = 2; i < sizeof records / 4; i++) {
+        const uint8_t record[] = {'T', (uint8_t)(i / 1024), (uint8_t)(i / 32 % 32), (uint8_t)(i % 32)};
+        memcpy(records + 4 * i, record, 4);
+    }
+    ropeclover_start(records, ROPECLOVER_JOB_BYTES, table, sizeof table, reasons, ROPECLOVER_REASONS, answer);
+    same("the longest job", answer[0], 0);
+    ropeclover_start(records, sizeof records, table, sizeof table, reasons, ROPECLOVER_REASONS, answer);
+    same("one record more", answer[0], ROPECLOVER_JOB_TOO_LONG);
+    for (size_t i = 2; i < sizeof rules / 4; i++) {
+        const uint8_t rule[] = {'P', (uint8_t)(i / 32), (uint8_t)(i % 32), 0};
+        memcpy(rules + 4 * i, rule, 4);
+    }
+    ropeclover_start(rules, sizeof rules - 4, table, sizeof table, reasons, ROPECLOVER_REASONS, answer);
+    same("the most rules", answer[0], 0);
+    ropeclover_start(rules, sizeof rules, table, sizeof table, reasons, ROPECLOVER_REASONS, answer);
+    same("one rule more", answer[0], ROPECLOVER_TOO_MANY_RULES);
+    ropeclover_ask(job, sizeof job, table, sizeof table, form, ROPECLOVER_FORM_SYMBOLS, answer);
+    same("the longest form", answer[0], 0);
+    ropeclover_ask(job, sizeof job, table, sizeof table, form, sizeof form, answer);
+    same("one symbol more", answer[0], ROPECLOVER_FORM_TOO_LONG);
+    form[3] = ROPECLOVER_SYMBOLS;
+    ropeclover_ask(job, sizeof job, table, sizeof table, form, ROPECLOVER_FORM_SYMBOLS, answer);
+    same("no symbol", answer[0] * 100 + answer[1], 100 * ROPECLOVER_NO_SYMBOL + 3);
+    ropeclover_start(job, sizeof job, table, sizeof table - 1, reasons, ROPECLOVER_REASONS, answer);
+    same("a byte less", answer[0], ROPECLOVER_SHORT_BUFFER);
+}
+
 int main(void)
 {
     saturates();
     explains();
     judges();
     refuses();
+    names_refusals();
+    has_limits();
     printf("%d passed, %d failed\n", passed, failed);
     return failed != 0;
 }

@@ -19,8 +19,13 @@ fn states(job: &[u8]) -> u8 {
 }
 
 fn output(tool: &str, words: &[&str], program: &str) -> Option<String> {
-    let mut child =
-        Command::new(tool).args(words).stdin(Stdio::piped()).stdout(Stdio::piped()).stderr(Stdio::null()).spawn().ok()?;
+    let mut child = Command::new(tool)
+        .args(words)
+        .stdin(Stdio::piped())
+        .stdout(Stdio::piped())
+        .stderr(Stdio::null())
+        .spawn()
+        .ok()?;
     child.stdin.take()?.write_all(program.as_bytes()).ok()?;
     let out = child.wait_with_output().ok()?;
     String::from_utf8(out.stdout).ok()

@@ -1,11 +1,6 @@
 //! The measured jobs.
 
-fn next(seed: &mut u64) -> u64 {
-    *seed = seed.wrapping_add(0x9e37_79b9_7f4a_7c15);
-    let mut z = (*seed ^ (*seed >> 30)).wrapping_mul(0xbf58_476d_1ce4_e5b9);
-    z = (z ^ (z >> 27)).wrapping_mul(0x94d0_49bb_1331_11eb);
-    z ^ (z >> 31)
-}
+use crate::random::Random;
 
 fn add(job: &mut Vec<u8>, record: [u8; 4]) -> bool {
     let new = !job.chunks(4).any(|r| r == record);
@@ -15,8 +10,8 @@ fn add(job: &mut Vec<u8>, record: [u8; 4]) -> bool {
     new
 }
 
-fn below(seed: &mut u64, n: u64) -> u8 {
-    (next(seed) % n) as u8
+fn below(random: &mut Random, n: usize) -> u8 {
+    random.below(n) as u8
 }
 
 fn frame(states: u8) -> Vec<u8> {
@@ -25,10 +20,10 @@ fn frame(states: u8) -> Vec<u8> {
 
 /// 24 variables, 90 rules, 20 states.
 fn typical() -> Vec<u8> {
-    let (mut seed, mut job, mut rules) = (7, frame(20), 0);
+    let (mut random, mut job, mut rules) = (Random(7), frame(20), 0);
     while rules < 90 {
-        let (a, b, c) = (below(&mut seed, 24), below(&mut seed, 24), below(&mut seed, 24));
-        rules += match below(&mut seed, 8) {
+        let (a, b, c) = (below(&mut random, 24), below(&mut random, 24), below(&mut random, 24));
+        rules += match below(&mut random, 8) {
             0 => add(&mut job, [b'E', a, 0, 0]),
             1 => add(&mut job, [b'U', a, b, 0]),
             2 | 3 => add(&mut job, [b'U', a, 32 + c % 10, 0]),
@@ -37,7 +32,7 @@ fn typical() -> Vec<u8> {
     }
     for q in 0..19 {
         add(&mut job, [b'T', q, 32 + q % 10, q + 1]);
-        add(&mut job, [b'T', q, 32 + below(&mut seed, 10), below(&mut seed, 20)]);
+        add(&mut job, [b'T', q, 32 + below(&mut random, 10), below(&mut random, 20)]);
     }
     job
 }
@@ -69,9 +64,9 @@ fn units() -> Vec<u8> {
 
 /// 256 random pair rules on 32 states.
 fn pairs() -> Vec<u8> {
-    let (mut seed, mut job, mut rules) = (11, frame(32), 0);
+    let (mut random, mut job, mut rules) = (Random(11), frame(32), 0);
     while rules < 256 {
-        let (a, b, c) = (below(&mut seed, 32), below(&mut seed, 32), below(&mut seed, 32));
+        let (a, b, c) = (below(&mut random, 32), below(&mut random, 32), below(&mut random, 32));
         rules += add(&mut job, [b'P', a, b, c]) as usize;
     }
     for q in 0..32 {

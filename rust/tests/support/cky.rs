@@ -1,4 +1,4 @@
-//! Cocke, Kasami and Younger, after 001: the sets M[i][j] of variables that derive the symbols i to j, for a grammar in Chomsky normal form.
+//! Cocke, Kasami and Younger: the sets M[i][j] of variables that derive the symbols i to j, for a grammar in Chomsky normal form.
 
 pub struct Grammar {
     pub pairs: Vec<(u8, u8, u8)>,

@@ -1,25 +1,32 @@
-//! What the tests share: random numbers and jobs, and a machine written apart from the library, straight from document 01.
+//! What the tests share: random numbers and jobs, and a machine written apart from the library, straight from the specification.
 #![allow(dead_code)]
 pub mod cky;
 pub mod jobs;
 pub mod machine;
 pub mod verdicts;
 
-/// A small generator of numbers (splitmix64), so that a printed seed repeats a run.
-pub struct Random(pub u64);
+#[path = "../../src/random.rs"]
+mod random;
+
+/// The crate's generator, with the choices that tests make.
+pub struct Random(random::Random);
 
 impl Random {
-    pub fn next(&mut self) -> u64 {
-        self.0 = self.0.wrapping_add(0x9e37_79b9_7f4a_7c15);
-        let mut z = self.0;
-        z = (z ^ (z >> 30)).wrapping_mul(0xbf58_476d_1ce4_e5b9);
-        z = (z ^ (z >> 27)).wrapping_mul(0x94d0_49bb_1331_11eb);
-        z ^ (z >> 31)
+    pub fn new(seed: u64) -> Self {
+        Random(random::Random(seed))
     }
 
-    /// A number below n.
+    /// The seed from which the next choices follow.
+    pub fn seed(&self) -> u64 {
+        self.0 .0
+    }
+
+    pub fn next(&mut self) -> u64 {
+        self.0.next()
+    }
+
     pub fn below(&mut self, n: usize) -> usize {
-        (self.next() % n as u64) as usize
+        self.0.below(n)
     }
 
     pub fn byte_below(&mut self, n: usize) -> u8 {
@@ -36,17 +43,26 @@ impl Random {
     }
 
     pub fn shuffle<T>(&mut self, items: &mut [T]) {
-        for last in (1..items.len()).rev() {
-            items.swap(last, self.below(last + 1));
-        }
+        self.0.shuffle(items);
     }
 }
 
-/// A seed for a test's run: ROPECLOVER_SEED, or a fixed one. It is printed, so that a failure can be repeated.
+/// A seed for a test's run: ROPECLOVER_SEED, or a fixed one. It is printed where the test fails, so that a failure can be repeated.
 pub fn seed(test: &str) -> Random {
     let seed = std::env::var("ROPECLOVER_SEED").ok().and_then(|s| s.parse().ok()).unwrap_or(20_061_120);
     println!("{test}: seed {seed}");
-    Random(seed)
+    Random::new(seed)
+}
+
+/// Text that is printed where the test fails while this is kept.
+pub struct ToldOnFailure(pub String);
+
+impl Drop for ToldOnFailure {
+    fn drop(&mut self) {
+        if std::thread::panicking() {
+            println!("{}", self.0);
+        }
+    }
 }
 
 /// A buffer between guard elements: a write outside it shows.

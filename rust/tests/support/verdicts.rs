@@ -1,4 +1,4 @@
-//! The verdicts once more, by the papers' own reductions to saturation (002 section 5): productive is pre* of T*, reached is pre* of T* X T*.
+//! The verdicts once more, by reductions to saturation: productive is pre* of T*, reached is pre* of T* X T*.
 //! Nothing here resembles the library's passes over flags.
 use super::machine::{Job, Rule};
 use std::collections::HashSet;
@@ -44,7 +44,7 @@ fn derives_around(rules: &[Rule], from: usize, x: usize) -> bool {
     closure(rules, edges, 2).contains(&(0, from, 1))
 }
 
-/// Whether `x` derives αxβ with αβ not empty, over all symbols: pre* of Σ+ x Σ* ∪ Σ* x Σ+ (000 section 5).
+/// Whether `x` derives αxβ with αβ not empty, over all symbols: pre* of Σ+ x Σ* ∪ Σ* x Σ+.
 fn grows(rules: &[Rule], x: usize) -> bool {
     // States: 0 nothing read, 1 something read before x, 2 x read with nothing around it yet, 3 x and something else read.
     let mut edges: Edges = HashSet::new();
@@ -81,9 +81,7 @@ pub fn verdicts(job: &Job) -> Found {
     let kept: Vec<Rule> = rules
         .iter()
         .filter(|rule| {
-            useful(rule.head)
-                && (rule.kind == b'E' || useful(rule.second))
-                && (rule.kind != b'P' || useful(rule.third))
+            useful(rule.head) && (rule.kind == b'E' || useful(rule.second)) && (rule.kind != b'P' || useful(rule.third))
         })
         .copied()
         .collect();

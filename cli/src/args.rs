@@ -1,0 +1,136 @@
+//! The command line.
+use clap::{Parser, Subcommand, ValueEnum};
+use std::path::PathBuf;
+
+const AFTER_HELP: &str = "\
+FILE holds a job or its text (a job has zero bytes, a text has none); '-' or none is standard input.
+
+Exit status: 0 done; 1 the job is refused, the text is malformed, or two runs differ; 2 bad usage, or input or output failed.
+
+The proved programs ropeclover-report, ropeclover-codes and ropeclover-explain print the same answers for a job on standard input, but end \
+with status 0 whatever they print: scripts should use this command.";
+
+/// Tells what a context-free grammar can say
+#[derive(Debug, Parser)]
+#[command(name = "ropeclover", version, after_help = AFTER_HELP, arg_required_else_help = true)]
+pub struct Args {
+    #[command(subcommand)]
+    pub command: Command,
+}
+
+#[derive(Debug, Subcommand)]
+pub enum Command {
+    Report(Report),
+    Codes(Codes),
+    Explain(Explain),
+    Nightly(Nightly),
+    Assemble(Assemble),
+    Disassemble(Disassemble),
+    Completions(Completions),
+}
+
+/// How an answer is written.
+#[derive(Clone, Copy, Debug, Default, PartialEq, Eq, ValueEnum)]
+pub enum Format {
+    /// Lines for people
+    #[default]
+    Text,
+    /// One JSON object
+    Json,
+}
+
+/// Report whether the start symbol is accepted, the language empty, growing
+#[derive(Debug, clap::Args)]
+pub struct Report {
+    /// A job or its text
+    pub file: Option<PathBuf>,
+    /// How to write the answer
+    #[arg(long, value_enum, default_value_t)]
+    pub format: Format,
+}
+
+/// List the symbols by kind: useful, derives no string, never reached
+#[derive(Debug, clap::Args)]
+pub struct Codes {
+    /// A job or its text
+    pub file: Option<PathBuf>,
+    /// List the symbols that no rule names, too
+    #[arg(long)]
+    pub all: bool,
+    /// Print 64 lines 'SYMBOL CODE' instead: 0 not named, 1 useful, 2 derives no string, 3 never reached
+    #[arg(long, conflicts_with_all = ["all", "format"])]
+    pub numbers: bool,
+    /// How to write the answer
+    #[arg(long, value_enum, default_value_t)]
+    pub format: Format,
+}
+
+/// Say whether a form is accepted, and step by step why
+#[derive(Debug, clap::Args)]
+#[command(after_help = "\
+A SYMBOL is a number, a name of the text, or a string in double quotes that the shell must leave alone: '\"M\"'. A string that is no name \
+itself stands for its characters; '\"\"' is the empty form. Without a SYMBOL the start symbol is explained. To read standard input, write '-'.")]
+pub struct Explain {
+    /// A job or its text
+    pub file: Option<PathBuf>,
+    /// The symbols of the form
+    #[arg(value_name = "SYMBOL")]
+    pub symbols: Vec<String>,
+    /// Print an indented tree for each step of the form
+    #[arg(long, conflicts_with_all = ["dot", "format"])]
+    pub tree: bool,
+    /// Print a Graphviz graph
+    #[arg(long, conflicts_with = "format")]
+    pub dot: bool,
+    /// How to write the answer
+    #[arg(long, value_enum, default_value_t)]
+    pub format: Format,
+}
+
+/// Check jobs twice, plain and with their records shuffled; fail if the two differ
+#[derive(Debug, clap::Args)]
+pub struct Nightly {
+    /// Jobs or their texts
+    #[arg(value_name = "FILE")]
+    pub files: Vec<PathBuf>,
+    /// Steps made at a time
+    #[arg(long, value_name = "N", default_value_t = 16384, value_parser = clap::value_parser!(u64).range(1..))]
+    pub steps: u64,
+    /// Chooses the order of the shuffled records
+    #[arg(long, value_name = "N", default_value_t = 1)]
+    pub seed: u64,
+    /// Files checked at a time [default: the number of processors]
+    #[arg(long, value_name = "N", value_parser = clap::value_parser!(u16).range(1..))]
+    pub jobs: Option<u16>,
+    /// A form to explain besides the start symbol, as 'memory "5" 33'; may be repeated
+    #[arg(long = "form", value_name = "FORM")]
+    pub forms: Vec<String>,
+    /// Compare with what BASELINE says was last seen; write what it lacks
+    #[arg(long, value_name = "BASELINE")]
+    pub baseline: Option<PathBuf>,
+    /// Write what is seen now over what BASELINE says
+    #[arg(long, requires = "baseline")]
+    pub update: bool,
+}
+
+/// Write the job of a text
+#[derive(Debug, clap::Args)]
+pub struct Assemble {
+    /// A text with one record a line
+    pub file: Option<PathBuf>,
+}
+
+/// Write the text of a job, with numbers
+#[derive(Debug, clap::Args)]
+pub struct Disassemble {
+    /// A job
+    pub file: Option<PathBuf>,
+}
+
+/// Write the completions of a shell
+#[derive(Debug, clap::Args)]
+pub struct Completions {
+    /// The shell
+    #[arg(value_enum)]
+    pub shell: clap_complete::Shell,
+}

@@ -1,0 +1,45 @@
+//! Why a form is accepted.
+use super::refused;
+use crate::args::{Explain, Format};
+use crate::failure::Failure;
+use crate::input::{self, Input};
+use crate::{form, json, output, print, quote};
+use ropeclover::format::start_symbol;
+use ropeclover::Workspace;
+
+/// The form that the words spell; the start symbol where there are none.
+fn form(options: &Explain, input: &Input) -> Result<Vec<u8>, Failure> {
+    if options.symbols.is_empty() {
+        return Ok(start_symbol(&input.job).into_iter().collect());
+    }
+    let unknown = |message| Failure::Usage(format!("error: {message}\n"));
+    form::read(&options.symbols.join(" "), &input.names).map_err(unknown)
+}
+
+/// A hint where the first word is no file, as symbols come after one.
+fn hint(failure: Failure, options: &Explain) -> Failure {
+    match (failure, &options.file) {
+        (Failure::File { name, error }, Some(file)) if error.kind() == std::io::ErrorKind::NotFound => {
+            let word = quote::visible_word(&file.to_string_lossy());
+            Failure::Usage(format!(
+                "error: {name}: {error}\n\nSymbols come after the file; '-' is standard input: ropeclover explain - {word}\n"
+            ))
+        }
+        (failure, _) => failure,
+    }
+}
+
+pub fn explain(options: &Explain) -> Result<(), Failure> {
+    let failed = |failure: Failure| hint(failure.in_format(options.format), options);
+    let mut input = input::read(options.file.as_deref()).map_err(failed)?;
+    let form = form(options, &input)?;
+    input.form = form.iter().map(|symbol| input.names.symbol(*symbol).into_owned()).collect();
+    let explanation = Workspace::new().explain(&input.job, &form).map_err(refused(&input, options.format))?;
+    let names = &input.names;
+    output::write(|output| match options.format {
+        Format::Json => json::write(output, &json::explanation(&explanation, &input)),
+        Format::Text if options.tree => print::tree::write(output, &explanation, names),
+        Format::Text if options.dot => print::graph::write(output, &explanation, names),
+        Format::Text => print::listing::write(output, &explanation, names),
+    })
+}

@@ -1,0 +1,81 @@
+//! Answers as JSON, for other programs. The objects are described in the manual page.
+use crate::input::{Input, Unreadable};
+use crate::print::codes::kind;
+use crate::refused;
+use ropeclover::listing::{Reason, Record};
+use ropeclover::text::{Names, TextError};
+use ropeclover::{Explanation, Refusal, Report, CODES};
+use serde_json::{json, Map, Value};
+use std::io::{self, Write};
+
+/// One object on a line.
+pub fn write(output: &mut dyn Write, value: &Value) -> io::Result<()> {
+    serde_json::to_writer(&mut *output, value)?;
+    writeln!(output)
+}
+
+pub fn report(report: &Report) -> Value {
+    json!({
+        "states": report.states,
+        "examined": report.examined,
+        "joins": report.joins,
+        "start": report.start,
+        "empty": report.empty,
+        "growing": report.growing,
+    })
+}
+
+pub fn codes(codes: &[u8; CODES], names: &Names) -> Value {
+    let symbol = |(symbol, code): (u8, &u8)| {
+        let name = names.symbol_name(symbol);
+        json!({ "symbol": symbol, "name": name, "code": code, "kind": kind(*code) })
+    };
+    json!({ "symbols": (0..).zip(codes).map(symbol).collect::<Vec<Value>>() })
+}
+
+/// The names of all numbers that have one.
+fn names<'a>(name: impl Fn(u8) -> Option<&'a str>) -> Value {
+    let named = (0..CODES as u8).filter_map(|number| Some((number.to_string(), Value::from(name(number)?))));
+    Value::Object(named.collect::<Map<String, Value>>())
+}
+
+fn record(record: &Record) -> Value {
+    let (from, symbol, to) = record.transition;
+    let (reason, body, middle) = match record.reason {
+        Reason::Given => ("given", None, None),
+        Reason::Empty => ("empty", Some(vec![]), None),
+        Reason::Unit(x) => ("unit", Some(vec![x]), None),
+        Reason::Pair(b, c, middle) => ("pair", Some(vec![b, c]), Some(middle)),
+    };
+    json!({ "from": from, "symbol": symbol, "to": to, "reason": reason, "body": body, "middle": middle })
+}
+
+pub fn explanation(explanation: &Explanation, input: &Input) -> Value {
+    json!({
+        "accepted": explanation.accepted,
+        "form": explanation.form,
+        "sequence": explanation.sequence,
+        "records": explanation.records.iter().map(record).collect::<Vec<Value>>(),
+        "symbols": names(|symbol| input.names.symbol_name(symbol)),
+        "states": names(|state| input.names.state_name(state)),
+    })
+}
+
+pub fn unreadable(unreadable: &Unreadable) -> Value {
+    let line = |error: &TextError| json!({ "line": error.span.line, "message": error.problem.to_string() });
+    let lines: Vec<Value> = match unreadable {
+        Unreadable::Malformed { errors, .. } => errors.iter().map(line).collect(),
+        _ => vec![],
+    };
+    json!({ "unreadable": { "message": unreadable.to_string(), "lines": lines } })
+}
+
+pub fn refusal(refusal: Refusal, input: &Input) -> Value {
+    json!({ "refused": {
+        "number": refusal.number(),
+        "place": refusal.place(),
+        "message": refusal.to_string(),
+        "file": input.name,
+        "line": refused::line(refusal, input),
+    } })
+}

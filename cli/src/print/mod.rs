@@ -1,0 +1,6 @@
+//! Answers as lines for people.
+pub mod codes;
+pub mod graph;
+pub mod listing;
+pub mod report;
+pub mod tree;

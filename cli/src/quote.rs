@@ -1,0 +1,184 @@
+//! Messages that quote lines of the input, with a caret at what they speak of.
+use codespan_reporting::diagnostic::{Diagnostic, Label};
+use codespan_reporting::files::{Error, Files};
+use codespan_reporting::term::termcolor::{BufferWriter, ColorChoice};
+use codespan_reporting::term::{self, Chars};
+use std::io::{self, IsTerminal, Write};
+use std::ops::Range;
+
+/// The most of a line that is quoted, in bytes before and after the first mark.
+const WINDOW: usize = 100;
+
+/// The lines that marks point into.
+pub struct Page<'a> {
+    pub name: &'a str,
+    pub lines: Vec<&'a str>,
+    /// The number that is shown for the first line.
+    pub first_number: usize,
+}
+
+/// A part of a line, by the line's index and byte offsets, and what is said of it.
+#[derive(Clone, Debug)]
+pub struct Mark {
+    line: usize,
+    range: Range<usize>,
+    message: String,
+    is_primary: bool,
+}
+
+impl Mark {
+    pub fn primary(line: usize, start: usize, end: usize, message: impl Into<String>) -> Self {
+        Mark { line, range: start..end, message: message.into(), is_primary: true }
+    }
+
+    pub fn secondary(line: usize, start: usize, end: usize, message: impl Into<String>) -> Self {
+        Mark { is_primary: false, ..Mark::primary(line, start, end, message) }
+    }
+}
+
+/// A character as it may be shown: control and direction characters could disturb a terminal.
+fn visible_char(c: char) -> char {
+    match c {
+        '\t' | '\n' => c,
+        '\0'..='\x1f' => char::from_u32(0x2400 + c as u32).unwrap_or('\u{fffd}'),
+        '\x7f'..='\u{9f}'
+        | '\u{200b}'..='\u{200f}'
+        | '\u{2028}'..='\u{202e}'
+        | '\u{2060}'..='\u{206f}'
+        | '\u{feff}' => '\u{fffd}',
+        _ => c,
+    }
+}
+
+/// Text as it may be shown.
+pub fn visible(text: &str) -> String {
+    text.chars().map(visible_char).collect()
+}
+
+/// A word as it may be shown on a line.
+pub fn visible_word(text: &str) -> String {
+    visible(text).replace(['\n', '\t'], "\u{fffd}")
+}
+
+/// A line as it is quoted.
+struct Quoted {
+    text: String,
+    /// The part of the line that is shown.
+    shown: Range<usize>,
+    /// Its offset among the quoted lines.
+    start: usize,
+}
+
+/// The nearest offset at or below `at` that is between characters.
+fn boundary(line: &str, at: usize) -> usize {
+    (0..=at.min(line.len())).rev().find(|at| line.is_char_boundary(*at)).unwrap_or(0)
+}
+
+impl Quoted {
+    fn new(line: &str, focus: usize, start: usize) -> Self {
+        let shown = boundary(line, focus.saturating_sub(WINDOW))..boundary(line, focus.saturating_add(WINDOW));
+        let cut = |is_cut| if is_cut { "…" } else { "" };
+        let text = format!("{}{}{}", cut(shown.start > 0), visible(&line[shown.clone()]), cut(shown.end < line.len()));
+        Quoted { text, shown, start }
+    }
+
+    /// Where an offset of the line stands among the quoted lines.
+    fn place(&self, line: &str, at: usize) -> usize {
+        let at = boundary(line, at).clamp(self.shown.start, self.shown.end);
+        let before = visible(&line[self.shown.start..at]).len();
+        self.start + before + if self.shown.start > 0 { '…'.len_utf8() } else { 0 }
+    }
+}
+
+/// The quoted lines, from the first that is marked to the last.
+struct Excerpt<'a> {
+    page: &'a Page<'a>,
+    first: usize,
+    lines: Vec<Quoted>,
+    text: String,
+}
+
+impl<'a> Excerpt<'a> {
+    fn new(page: &'a Page<'a>, marks: &[Mark]) -> Self {
+        let first = marks.iter().map(|mark| mark.line).min().unwrap_or(0);
+        let last = marks.iter().map(|mark| mark.line).max().unwrap_or(0);
+        let mut excerpt = Excerpt { page, first, lines: Vec::new(), text: String::new() };
+        for (at, line) in page.lines.iter().enumerate().take(last + 1).skip(first) {
+            let focus = marks.iter().find(|mark| mark.line == at).map_or(0, |mark| mark.range.start);
+            let quoted = Quoted::new(line, focus, excerpt.text.len());
+            excerpt.text.push_str(&quoted.text);
+            excerpt.text.push('\n');
+            excerpt.lines.push(quoted);
+        }
+        excerpt
+    }
+
+    fn label(&self, mark: &Mark) -> Option<Label<()>> {
+        let (line, quoted) = (self.page.lines.get(mark.line)?, self.lines.get(mark.line - self.first)?);
+        let range = quoted.place(line, mark.range.start)..quoted.place(line, mark.range.end);
+        let label = if mark.is_primary { Label::primary((), range) } else { Label::secondary((), range) };
+        Some(label.with_message(&mark.message))
+    }
+}
+
+impl<'a> Files<'a> for Excerpt<'a> {
+    type FileId = ();
+    type Name = &'a str;
+    type Source = &'a str;
+
+    fn name(&'a self, (): ()) -> Result<&'a str, Error> {
+        Ok(self.page.name)
+    }
+
+    fn source(&'a self, (): ()) -> Result<&'a str, Error> {
+        Ok(&self.text)
+    }
+
+    fn line_index(&'a self, (): (), byte: usize) -> Result<usize, Error> {
+        Ok(self.first + self.lines.partition_point(|line| line.start <= byte).saturating_sub(1))
+    }
+
+    fn line_number(&'a self, (): (), line: usize) -> Result<usize, Error> {
+        Ok(line + self.page.first_number)
+    }
+
+    fn column_number(&'a self, (): (), line: usize, byte: usize) -> Result<usize, Error> {
+        let range = self.line_range((), line)?;
+        let (source, quoted) = (self.page.lines[line], &self.lines[line - self.first]);
+        let shown = self.text[range.start..byte.clamp(range.start, range.end)].chars().count();
+        // What is cut off before counts, and the sign that stands for it does not.
+        let cut = source[..quoted.shown.start].chars().count();
+        Ok(1 + shown + cut.saturating_sub(1))
+    }
+
+    fn line_range(&'a self, (): (), line: usize) -> Result<Range<usize>, Error> {
+        let max = self.first + self.lines.len();
+        let quoted = line.checked_sub(self.first).and_then(|at| self.lines.get(at));
+        let quoted = quoted.ok_or(Error::LineTooLarge { given: line, max })?;
+        Ok(quoted.start..quoted.start + quoted.text.len() + 1)
+    }
+}
+
+/// Writes a message to standard error: a headline, the marked lines, and notes.
+pub fn show(page: &Page<'_>, code: Option<&str>, headline: &str, marks: &[Mark], notes: &[String]) {
+    let excerpt = Excerpt::new(page, marks);
+    let mut diagnostic = Diagnostic::error().with_message(headline).with_notes(notes.to_vec());
+    diagnostic.code = code.map(String::from);
+    diagnostic.labels = marks.iter().filter_map(|mark| excerpt.label(mark)).collect();
+    let choice = if io::stderr().is_terminal() { ColorChoice::Auto } else { ColorChoice::Never };
+    let config = term::Config { chars: Chars::ascii(), ..term::Config::default() };
+    let writer = BufferWriter::stderr(choice);
+    let mut buffer = writer.buffer();
+    // Where standard error cannot be written, only the status is left to tell.
+    if term::emit(&mut buffer, &config, &excerpt, &diagnostic).is_ok() {
+        let only_zero = !marks.is_empty() && marks.iter().all(|mark| mark.line + page.first_number == 0);
+        let _ = io::stderr().write_all(&if only_zero { indented(buffer.as_slice()) } else { buffer.into_inner() });
+    }
+}
+
+/// The lines of a message that begin with a blank, one further to the right: the margin is made for no digits where the only line shown has the
+/// number 0.
+fn indented(message: &[u8]) -> Vec<u8> {
+    let lines = message.split_inclusive(|byte| *byte == b'\n');
+    lines.flat_map(|line| [if line.starts_with(b" ") { &b" "[..] } else { b"" }, line]).collect::<Vec<_>>().concat()
+}

@@ -1,0 +1,105 @@
+//! Answers, on texts and jobs, with names. The expected lines are worked out by hand.
+mod support;
+
+use support::{file, job, run, RADIO_JOB, RADIO_TEXT, REPORT};
+
+const RADIO_REPORT: &str = "states 6\nexamined 20\njoins 5\nstart yes\nempty no\ngrowing yes\n";
+
+#[test]
+fn a_file_is_a_text_or_a_job_and_none_is_standard_input() {
+    let text = file("sorts", "radio.txt", RADIO_TEXT.as_bytes());
+    run(&["report", &text], b"").prints(RADIO_REPORT);
+    let job = file("sorts", "radio.job", RADIO_JOB);
+    run(&["report", &job], b"").prints(RADIO_REPORT);
+    run(&["report", "-"], RADIO_TEXT.as_bytes()).prints(RADIO_REPORT);
+    run(&["report"], RADIO_JOB).prints(RADIO_REPORT);
+}
+
+#[test]
+fn the_example_job_is_its_text() {
+    assert_eq!(run(&["assemble"], RADIO_TEXT.as_bytes()).bytes, RADIO_JOB);
+    let text = run(&["disassemble"], RADIO_JOB);
+    assert!(text.stdout.starts_with("S 0 0 0\nU 0 1 0\n"));
+    assert_eq!(run(&["assemble"], text.stdout.as_bytes()).bytes, RADIO_JOB);
+}
+
+#[test]
+fn the_report_of_the_specification() {
+    run(&["report"], REPORT.as_bytes()).prints("states 3\nexamined 11\njoins 8\nstart yes\nempty no\ngrowing yes\n");
+    run(&["report", "--format", "json"], REPORT.as_bytes())
+        .prints("{\"empty\":false,\"examined\":11,\"growing\":true,\"joins\":8,\"start\":true,\"states\":3}\n");
+}
+
+/// S → A B with a rule for A alone: S and B derive no string, A and a are never reached; and C → c is beside it all.
+const KINDS: &str = "name 0 S\nname 1 A\nname 2 B\nname 32 \"a\"\nS S\nP S A B\nU A \"a\"\nU 3 33\nU 4 33\nP 4 4 4\n";
+
+#[test]
+fn codes_by_kind() {
+    run(&["codes"], KINDS.as_bytes())
+        .prints("useful: 0\nderives no string: 2\n  0 S\n  2 B\nnever reached: 5\n  1 A\n  3\n  4\n  32 \"a\"\n  33\n");
+    let all = run(&["codes", "--all"], KINDS.as_bytes()).stdout;
+    assert!(all.contains("  33\nnot named: 57\n  5\n  6\n") && all.ends_with("  63\n"));
+    let numbers = run(&["codes", "--numbers"], KINDS.as_bytes()).stdout;
+    let lines: Vec<&str> = numbers.lines().collect();
+    assert_eq!(lines.len(), 64);
+    assert_eq!((lines[0], lines[1], lines[5], lines[33], lines[63]), ("0 2", "1 3", "5 0", "33 3", "63 0"));
+}
+
+#[test]
+fn codes_as_json() {
+    let json = run(&["codes", "--format", "json"], KINDS.as_bytes()).stdout;
+    assert!(json.starts_with("{\"symbols\":[{\"code\":2,\"kind\":\"derives no string\",\"name\":\"S\",\"symbol\":0},"));
+    assert!(json.contains("{\"code\":3,\"kind\":\"never reached\",\"name\":\"\\\"a\\\"\",\"symbol\":32}"));
+    assert!(json.ends_with("{\"code\":0,\"kind\":\"not named\",\"name\":null,\"symbol\":63}]}\n"));
+}
+
+/// go → G stop, stop → T, and the string GT between named states.
+const NAMED: &str = "name 0 go\nname 1 letter\nname 2 stop\nname 32 \"G\"\nname 33 \"T\"\nstate 0 idle\nstate 2 done\n\
+    S go\nP go letter stop\nU letter \"G\"\nU stop \"T\"\nI idle\nF done\nT idle \"G\" 1\nT 1 \"T\" done\n";
+
+#[test]
+fn a_listing_has_names_and_stands_after_its_premises() {
+    let listing =
+        "accepted yes\nform go\nsequence idle done\nrecords 5\nidle \"G\" 1 given\nidle letter 1 by letter -> \"G\"\n\
+        1 \"T\" done given\n1 stop done by stop -> \"T\"\nidle go done by go -> letter stop at 1\n";
+    let named = file("listing", "named.txt", NAMED.as_bytes());
+    run(&["explain", &named], b"").prints(listing);
+    run(&["explain", &named, "go"], b"").prints(listing);
+    run(&["explain", &named, "0"], b"").prints(listing);
+    run(&["explain", "-"], NAMED.as_bytes()).prints(listing);
+    run(&["explain", &named, "stop"], b"").prints("accepted no\nform stop\nrecords 0\n");
+}
+
+/// A quoted string is a name, or its characters; a shell may have taken the quotes.
+#[test]
+fn forms_of_names_and_strings() {
+    let two =
+        "accepted yes\nform \"G\" \"T\"\nsequence idle 1 done\nrecords 2\nidle \"G\" 1 given\n1 \"T\" done given\n";
+    for words in [&["\"G\"", "\"T\""][..], &["\"GT\""], &["G", "T"], &["\"G\" 33"], &["32", "33"]] {
+        run(&[&["explain", "-"], words].concat(), NAMED.as_bytes()).prints(two);
+    }
+    // A form has no comments.
+    let hash = "name 32 \"#\"\nS 0\nI 0\nF 1\nT 0 \"#\" 1\n";
+    for word in ["#", "\"#\""] {
+        run(&["explain", "-", word], hash.as_bytes())
+            .prints("accepted yes\nform \"#\"\nsequence 0 1\nrecords 1\n0 \"#\" 1 given\n");
+    }
+    run(&["explain", "-", "\"\""], NAMED.as_bytes()).prints("accepted no\nform \"\"\nrecords 0\n");
+    run(&["explain", "-", ""], b"S 0\nI 0\nF 0\n").prints("accepted yes\nform \"\"\nsequence 0\nrecords 0\n");
+}
+
+#[test]
+fn an_explanation_as_json() {
+    run(&["explain", "--format", "json", "-", "stop"], NAMED.as_bytes()).prints(concat!(
+        "{\"accepted\":false,\"form\":[2],\"records\":[],\"sequence\":[],\"states\":{\"0\":\"idle\",\"2\":\"done\"},",
+        "\"symbols\":{\"0\":\"go\",\"1\":\"letter\",\"2\":\"stop\",\"32\":\"\\\"G\\\"\",\"33\":\"\\\"T\\\"\"}}\n"
+    ));
+    let json = run(&["explain", "--format", "json"], &job(NAMED)).stdout;
+    assert!(json.starts_with("{\"accepted\":true,\"form\":[0],\"records\":[{"));
+    assert!(json.contains("[{\"body\":null,\"from\":0,\"middle\":null,\"reason\":\"given\",\"symbol\":32,\"to\":1},"));
+    assert!(json.contains("{\"body\":[32],\"from\":0,\"middle\":null,\"reason\":\"unit\",\"symbol\":1,\"to\":1}"));
+    assert!(json.contains("{\"body\":[1,2],\"from\":0,\"middle\":1,\"reason\":\"pair\",\"symbol\":0,\"to\":2}"));
+    assert!(json.ends_with("\"sequence\":[0,2],\"states\":{},\"symbols\":{}}\n"));
+    let empty = run(&["explain", "--format", "json", "-"], b"S 0\nE 0\nI 0\nF 0\n").stdout;
+    assert!(empty.contains("{\"body\":[],\"from\":0,\"middle\":null,\"reason\":\"empty\",\"symbol\":0,\"to\":0}"));
+}

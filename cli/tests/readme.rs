@@ -1,0 +1,48 @@
+//! The README's examples print what it says.
+mod support;
+
+use support::{file, run, RADIO_TEXT};
+
+const README: &str = include_str!("../../README.md");
+
+/// The text as the README shows it, indented by four blanks.
+fn indented(text: &str) -> String {
+    text.lines().map(|line| if line.is_empty() { "\n".into() } else { format!("    {line}\n") }).collect()
+}
+
+#[test]
+fn the_report_and_the_useless_symbols() {
+    assert!(README.contains(&indented(&run(&["report"], RADIO_TEXT.as_bytes()).stdout)));
+    let codes = run(&["codes"], RADIO_TEXT.as_bytes()).stdout;
+    let useless = codes.find("derives no string").unwrap();
+    assert!(README.contains(&indented(&codes[useless..])));
+    assert!(README.contains(&indented(codes.lines().next().unwrap())));
+}
+
+#[test]
+fn the_tree_of_a_memory_command() {
+    let tree = run(&["explain", "--tree", "-", "memory"], RADIO_TEXT.as_bytes()).stdout;
+    let first: String = tree.lines().take(7).map(|line| format!("{line}\n")).collect();
+    assert!(README.contains(&indented(&first)));
+}
+
+/// Every file that the README names in this repository is there, but for what a build makes.
+#[test]
+fn what_it_names_is_there() {
+    let root = std::path::Path::new(env!("CARGO_MANIFEST_DIR")).join("..");
+    let folders = ["docs/", "examples/", "include/", "rust/", "cli/", ".ci/", "CHANGELOG.md"];
+    let named = |word: &&str| folders.iter().any(|folder| word.starts_with(folder));
+    let words =
+        README.split(|c: char| c.is_whitespace() || "`(),;:".contains(c)).map(|word| word.trim_end_matches('.'));
+    let words: Vec<&str> = words.filter(named).collect();
+    assert!(words.len() > 8, "{words:?}");
+    words.iter().for_each(|word| assert!(root.join(word).exists(), "{word}"));
+}
+
+#[test]
+fn the_refusal() {
+    let path = file("readme", "radio.txt", RADIO_TEXT.replace("T 3 \"0-9\" 4\n", "T 3 64 4\n").as_bytes());
+    let ran = run(&["report", &path], b"");
+    let message = ran.stderr.replace(&path, "radio.txt");
+    assert!(README.contains(&indented(&format!("{}\n{}", ran.stdout, message.trim_end()))), "{message}");
+}

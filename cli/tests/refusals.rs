@@ -1,0 +1,224 @@
+//! Refusals and malformed text: the line on standard output, the quoted lines on standard error, the status.
+mod support;
+
+use support::{file, job, run, RADIO_JOB, REPORT};
+
+/// Runs report on a text in a file and gives the message with the file's name as FILE.
+fn refuse(name: &str, text: &str, line: &str, parts: &[&str]) {
+    let path = file(&format!("refuse-{name}"), "job.txt", text.as_bytes());
+    let mut ran = run(&["report", &path], b"");
+    ran.stderr = ran.stderr.replace(&path, "FILE");
+    ran.refuses(line, parts);
+}
+
+#[test]
+fn a_kind_is_quoted() {
+    refuse(
+        "kind",
+        "S 0\nX 1 2\n",
+        "refused 3 at 1\n",
+        &[
+            "error[refused 3 at 1]: unknown kind of record\n  --> FILE:2:1\n",
+            "2 | X 1 2\n  | ^ the kinds are E, U, P, T, I, F and S\n",
+        ],
+    );
+}
+
+#[test]
+fn a_field_is_quoted_with_its_class() {
+    refuse(
+        "symbol",
+        "S 0\n\n# given\nT 0 64 0 # too large\n",
+        "refused 4 at 1\n",
+        &["--> FILE:4:5\n", "4 | T 0 64 0 # too large\n  |     ^^ field 2 of a T record is a symbol, 0 to 63\n"],
+    );
+    refuse(
+        "variable",
+        "P 0 1 32\n",
+        "refused 4 at 0\n",
+        &["1 | P 0 1 32\n  |       ^^ field 3 of a P record is a variable, 0 to 31"],
+    );
+    refuse("state", "I 32\n", "refused 4 at 0\n", &["1 | I 32\n  |   ^^ field 1 of an I record is a state, 0 to 31"]);
+    refuse(
+        "unused",
+        "name 1 a\nU a a 7\n",
+        "refused 4 at 0\n",
+        &["2 | U a a 7\n  |       ^ field 3 of a U record is unused, so 0"],
+    );
+}
+
+#[test]
+fn the_earlier_record_is_quoted_too() {
+    refuse(
+        "repeated",
+        "name 0 a\nS 0\nU a 32\nI 0\n\nU 0 32 0\n",
+        "refused 5 at 3\n",
+        &[
+            "a record is repeated\n  --> FILE:6:1\n",
+            "3 | U a 32\n  | ------ the same record\n",
+            "6 | U 0 32 0\n  | ^^^^^^^^ repeated here\n",
+        ],
+    );
+    refuse(
+        "second",
+        "S 0\nI 1\nS 2\n",
+        "refused 6 at 2\n",
+        &[
+            "there is one start symbol, so one S record\n",
+            "1 | S 0\n  | --- the first\n",
+            "3 | S 2\n  | ^^^ the second\n",
+        ],
+    );
+    refuse(
+        "initial",
+        "S 0\nI 1\nI 2\n",
+        "refused 6 at 2\n",
+        &["there is one initial state, so one I record", "2 | I 1\n", "3 | I 2\n"],
+    );
+}
+
+#[test]
+fn limits_are_quoted() {
+    let rules: String = (0..257).map(|n| format!("P {} {} 0\n", n / 32, n % 32)).collect();
+    refuse(
+        "rules",
+        &rules,
+        "refused 7 at 256\n",
+        &["a job has at most 256 rules", "257 | P 8 0 0\n", "^^^^^^^ the 257th rule"],
+    );
+    let mut records = String::from("S 0\nI 0\n");
+    (0..4095).for_each(|n| records.push_str(&format!("T {} {} {}\n", n / 1024, n / 32 % 32, n % 32)));
+    refuse(
+        "records",
+        &records,
+        "refused 2 at 16388\n",
+        &["the text has 4097 records; a job has at most 4096", "4097 | T 3 31 30\n"],
+    );
+}
+
+#[test]
+fn what_is_missing_is_named() {
+    refuse(
+        "start",
+        "I 0\n",
+        "refused 8 at 1\n",
+        &["FILE: no S record says which variable is the start symbol", "a record 'S 0'"],
+    );
+    refuse(
+        "initial-missing",
+        "S 0\n",
+        "refused 9 at 1\n",
+        &["FILE: no I record says which state is the initial one", "a record 'I 0'"],
+    );
+    refuse("empty", "", "refused 8 at 0\n", &["no S record"]);
+}
+
+#[test]
+fn a_job_shows_the_record_and_its_bytes() {
+    let mut job = RADIO_JOB.to_vec();
+    job.extend([b'P', 1, 200, 3]);
+    run(&["codes"], &job).refuses(
+        "refused 4 at 23\n",
+        &[
+            "--> <stdin>:23:5\n",
+            "23 | P 1 200 3\n   |     ^^^ field 2 of a P record is a variable, 0 to 31\n",
+            "record 23, counted from 0: bytes 50 01 c8 03 at offset 92\n",
+        ],
+    );
+    job.truncate(92);
+    job.extend([b'S', 0, 0, 0]);
+    run(&["report"], &job)
+        .refuses("refused 5 at 23\n", &[" 0 | S 0 0 0\n", "the same record\n", "23 | S 0 0 0\n", "bytes 53 00 00 00"]);
+    run(&["report"], b"\x07\0\0\0").refuses(
+        "refused 3 at 0\n",
+        &["  --> <stdin>:0:1\n  |\n0 | 0x07 0 0 0\n  | ^^^^ the kinds", "bytes 07 00 00 00"],
+    );
+    run(&["report"], &RADIO_JOB[..39]).refuses("refused 1 at 9\n", &["left over after 9 whole records"]);
+}
+
+#[test]
+fn a_form_is_quoted() {
+    run(&["explain", "-", "0", "64", "1"], REPORT.as_bytes())
+        .refuses("refused 11 at 1\n", &["1 | 0 64 1\n  |   ^^ a symbol is 0 to 63"]);
+    let words: Vec<String> =
+        ["explain", "-"].into_iter().map(String::from).chain((0..65).map(|_| "0".into())).collect();
+    run(&words, REPORT.as_bytes()).refuses("refused 12 at 65\n", &["the form has 65 symbols", "^ the 65th symbol"]);
+}
+
+#[test]
+fn refusals_as_json() {
+    let path = file("refuse-json", "job.txt", b"S 0\n\nU 0 99\n");
+    let ran = run(&["report", "--format", "json", &path], b"");
+    assert_eq!(ran.status, Some(1));
+    assert!(ran
+        .stdout
+        .starts_with(&format!("{{\"refused\":{{\"file\":\"{path}\",\"line\":3,\"message\":\"record 1 has a field")));
+    assert!(ran.stdout.ends_with("\"number\":4,\"place\":1}}\n"));
+}
+
+#[test]
+fn malformed_text_as_json() {
+    let ran = run(&["codes", "--format", "json"], b"S 0\nfoo\nname 64 x\n");
+    ran.refuses(
+        concat!(
+            "{\"unreadable\":{\"lines\":[{\"line\":2,\"message\":\"'foo' is no kind of record (one letter), nor 'name' or 'state'\"},",
+            "{\"line\":3,\"message\":\"a symbol is a number from 0 to 63\"}],\"message\":\"<stdin>: 2 lines are malformed\"}}\n"
+        ),
+        &["<stdin>:2:1", "<stdin>:3:6"],
+    );
+}
+
+#[test]
+fn malformed_lines_are_all_shown() {
+    let text = "S 0\nP 0 1 x\nfoo 1\nU 1 2 3 4\nname 0 a\nname 0 b\nname 1 a\nname 64 c\nstate 32 d\nname 1\nname 2 3\nU 0 \"a\n";
+    let ran = run(&["report"], text.as_bytes());
+    ran.refuses(
+        "",
+        &[
+            "'x' is no number from 0 to 255, and no symbol has this name\n  --> <stdin>:2:7\n",
+            "2 | P 0 1 x\n  |       ^\n",
+            "'foo' is no kind of record (one letter), nor 'name' or 'state'",
+            "a record has at most three fields, not 4\n  --> <stdin>:4:9\n",
+            "this number has a name already, from line 5\n",
+            "5 | name 0 a\n  | -------- first here\n6 | name 0 b\n  |      ^\n",
+            "this name is taken already, in line 5\n",
+            "a symbol is a number from 0 to 63\n",
+            "a state is a number from 0 to 31\n",
+            "a number and a name are due here, not 1 words\n",
+            "'3' is no name",
+            "this string has no closing quote on its line\n   --> <stdin>:12:5\n",
+        ],
+    );
+    let many = "foo\n".repeat(25);
+    run(&["assemble"], many.as_bytes()).refuses("", &["<stdin>:10:1", "<stdin>: 15 more lines are malformed"]);
+}
+
+/// A byte order mark and carriage returns, as other systems write them, are no part of a line.
+#[test]
+fn texts_of_other_systems() {
+    run(&["assemble"], "\u{feff}S 1\r\nU 1 32\r\n".as_bytes()).prints("S\u{1}\0\0U\u{1} \0");
+    run(&["codes"], "\u{feff}S 0 0 9\r\n".as_bytes())
+        .refuses("refused 4 at 0\n", &["--> <stdin>:1:7\n", "1 | S 0 0 9\n  |       ^ field 3"]);
+}
+
+#[test]
+fn a_name_of_another_class_is_unknown() {
+    let text = "name 0 a\nstate 0 q\nS a\nT q a q\nT a a q\nE q\n";
+    run(&["report"], text.as_bytes()).refuses(
+        "",
+        &[
+            "'a' is no number from 0 to 255, and no state has this name",
+            "5 | T a a q",
+            "'q' is no number from 0 to 255, and no symbol",
+        ],
+    );
+}
+
+#[test]
+fn text_for_a_job_and_a_job_for_text() {
+    run(&["disassemble"], REPORT.as_bytes()).refuses("", &["<stdin>: this is text already", "disassemble takes a job"]);
+    run(&["assemble"], &job(REPORT)).refuses("", &["<stdin>: this is a job already", "assemble takes its text"]);
+    run(&["disassemble"], b"S\0\0\0\0\0\0\0").refuses("", &["record 1 has no spelling"]);
+    run(&["report"], b"S 0\nU 0 32\nI 0\0\n")
+        .refuses("refused 4 at 0\n", &["this looks like text, but byte 14 is zero, as in a job"]);
+}

@@ -1,0 +1,156 @@
+//! Input and output that go wrong: full devices, broken pipes, bytes that are no text, control characters, floods.
+mod support;
+
+use std::ffi::OsStr;
+use std::fs::File;
+use std::io::Write;
+use std::os::unix::ffi::OsStrExt;
+use std::os::unix::process::ExitStatusExt;
+use std::process::{Command, Stdio};
+use support::{folder, run, Ran, COMMAND, RADIO_JOB, RADIO_TEXT, REPORT};
+
+fn onto_a_full_device(words: &[&str], input: &[u8]) -> Ran {
+    let full = File::options().write(true).open("/dev/full").unwrap();
+    let mut child =
+        Command::new(COMMAND).args(words).stdin(Stdio::piped()).stdout(full).stderr(Stdio::piped()).spawn().unwrap();
+    let _ = child.stdin.take().unwrap().write_all(input);
+    Ran::of(child.wait_with_output().unwrap())
+}
+
+#[test]
+fn a_full_device_is_reported() {
+    let text = RADIO_TEXT.as_bytes();
+    for words in [
+        &["assemble"][..],
+        &["report"],
+        &["report", "--format", "json"],
+        &["codes"],
+        &["codes", "--numbers"],
+        &["explain"],
+        &["explain", "--tree"],
+        &["explain", "--dot"],
+        &["nightly"],
+        &["completions", "bash"],
+        &["--help"],
+        &["explain", "--help"],
+        &["--version"],
+    ] {
+        let ran = onto_a_full_device(words, text);
+        assert_eq!(ran.status, Some(2), "{words:?}");
+        assert_eq!(ran.stderr, "ropeclover: standard output: No space left on device (os error 28)\n", "{words:?}");
+    }
+    let refused = onto_a_full_device(&["report"], b"I 0\n");
+    assert_eq!(refused.status, Some(2));
+    refused.says(&["refused 8 at 1", "standard output: No space left"]);
+    assert_eq!(onto_a_full_device(&["disassemble"], RADIO_JOB).status, Some(2));
+}
+
+/// The reader is gone before the command has its input, so before it writes.
+#[test]
+fn a_broken_pipe_ends_it_as_any_filter() {
+    for words in [&["report"][..], &["codes"], &["explain", "--tree"], &["nightly"], &["assemble"]] {
+        let mut child = Command::new(COMMAND)
+            .args(words)
+            .stdin(Stdio::piped())
+            .stdout(Stdio::piped())
+            .stderr(Stdio::piped())
+            .spawn()
+            .unwrap();
+        drop(child.stdout.take());
+        child.stdin.take().unwrap().write_all(RADIO_TEXT.as_bytes()).unwrap();
+        let output = child.wait_with_output().unwrap();
+        assert_eq!(output.status.signal(), Some(13), "{words:?}");
+        assert!(output.stderr.is_empty(), "{words:?}");
+    }
+}
+
+#[test]
+fn arguments_that_are_no_utf8() {
+    let bad = OsStr::from_bytes(b"\xff\xfe");
+    for words in [
+        &[OsStr::new("explain"), OsStr::new("-"), bad][..],
+        &[bad],
+        &[OsStr::new("nightly"), OsStr::new("--form"), bad],
+    ] {
+        let ran = run(words, REPORT.as_bytes());
+        assert_eq!((ran.status, ran.stdout.as_str()), (Some(2), ""), "{}", ran.stderr);
+        assert!(!ran.stderr.contains("panicked") && !ran.stderr.is_empty());
+    }
+    // A file may have any name.
+    let path = folder("no-utf8").join(bad);
+    std::fs::write(&path, REPORT).unwrap();
+    assert_eq!(run(&[OsStr::new("report"), path.as_os_str()], b"").status, Some(0));
+}
+
+#[test]
+fn input_that_is_no_utf8() {
+    run(&["report"], b"S 0\nU 0 \xff\n")
+        .refuses("", &["<stdin>: neither a job, as no byte is zero, nor text, as line 2 is no UTF-8 at byte 4"]);
+}
+
+#[test]
+fn control_characters_are_not_repeated() {
+    let inputs: [&[u8]; 4] =
+        [b"\x1b[2J 0\n", b"S 0\nU 0 \x1b]0;x\x07\n", b"S 0 # \x1b[31m\nT 0 64 0 # \x1b[31m\n", b"name 1 \"\x1b\"\n"];
+    for input in inputs {
+        let ran = run(&["report"], input);
+        assert_eq!(ran.status, Some(1));
+        assert!(!ran.stderr.contains('\x1b') && !ran.stderr.contains('\x07'), "{:?}", ran.stderr);
+    }
+    for words in [&["\x1b[2J"][..], &["report", "\x1b[2J"], &["explain", "-", "\x1b[2J"], &["nightly", "--\x1b[2J"]] {
+        let ran = run(words, REPORT.as_bytes());
+        assert_eq!(ran.status, Some(2), "{words:?}");
+        assert!(!ran.stderr.contains('\x1b'), "{:?}", ran.stderr);
+    }
+}
+
+#[test]
+fn floods_are_not_repeated() {
+    let long = "x".repeat(5_000_000);
+    for text in [
+        format!("{long}\n"),
+        format!("U 0 {long}\n"),
+        format!("T 0 64 0 # {long}\n"),
+        format!("name 1 {long}\n"),
+        format!("name 1 \"{long}\"\n"),
+    ] {
+        let ran = run(&["report"], text.as_bytes());
+        assert_eq!(ran.status, Some(1));
+        assert!(ran.stderr.len() < 2_000, "{}", ran.stderr.len());
+    }
+    // The caret stands at the field behind a long comment's worth of blanks, too.
+    let far = format!("T 0{}64 0\n", " ".repeat(100_000));
+    run(&["report"], far.as_bytes())
+        .refuses("refused 4 at 0\n", &["<stdin>:1:100004\n", "64 0\n", "^^ field 2 of a T record"]);
+}
+
+#[test]
+fn long_input_is_said_to_be_longer_than_a_job() {
+    let path = folder("long").join("zeros");
+    File::create(&path).unwrap().set_len(2 << 30).unwrap();
+    let ran = run(&["report", path.to_str().unwrap()], b"");
+    ran.refuses("refused 2 at 16385\n", &["the job has more than 16384 bytes, 4096 records"]);
+    assert!(!ran.stderr.contains("16385 bytes"));
+    let text = "#\n".repeat(9 << 20);
+    run(&["report"], text.as_bytes()).refuses("", &["<stdin>: the text has more than 16777216 bytes"]);
+}
+
+#[test]
+fn files_that_cannot_be_read() {
+    for words in [
+        &["report", "/no/such/file"][..],
+        &["codes", "/"],
+        &["nightly", "/no/such/file"],
+        &["assemble", "/no/such/file"],
+    ] {
+        let ran = run(words, b"");
+        assert_eq!((ran.status, ran.stdout.as_str()), (Some(2), ""), "{words:?}");
+        assert!(ran.stderr.starts_with("ropeclover: /"), "{}", ran.stderr);
+    }
+    let ran = run(&["explain", "3"], b"");
+    assert_eq!(ran.status, Some(2));
+    ran.says(&[
+        "3: No such file or directory",
+        "Symbols come after the file; '-' is standard input: ropeclover explain - 3",
+    ]);
+}

@@ -1,0 +1,100 @@
+//! The command line: help, version, suggestions, completions, and complaints before any input is read.
+mod support;
+
+use std::process::{Command, Stdio};
+use support::{run, Ran, COMMAND};
+
+#[test]
+fn help_and_version() {
+    run(&["--version"], b"").prints(concat!("ropeclover ", env!("CARGO_PKG_VERSION"), "\n"));
+    let help = run(&["--help"], b"");
+    assert_eq!((help.status, help.stderr.as_str()), (Some(0), ""));
+    for part in [
+        "report",
+        "codes",
+        "explain",
+        "nightly",
+        "assemble",
+        "disassemble",
+        "completions",
+        "Exit status: 0",
+        "ropeclover-report",
+        "scripts",
+    ] {
+        assert!(help.stdout.contains(part), "{part}");
+    }
+    for command in ["report", "codes", "explain", "nightly", "assemble", "disassemble", "completions"] {
+        let help = run(&[command, "--help"], b"");
+        assert_eq!(help.status, Some(0));
+        assert!(help.stdout.contains(&format!("Usage: ropeclover {command}")), "{}", help.stdout);
+    }
+}
+
+#[test]
+fn one_version_everywhere() {
+    let version = env!("CARGO_PKG_VERSION");
+    let header = include_str!("../../include/ropeclover.h");
+    assert!(header.contains(&format!("#define ROPECLOVER_VERSION \"{version}\"\n")));
+    for (part, number) in ["MAJOR", "MINOR", "PATCH"].iter().zip(version.split('.')) {
+        assert!(header.contains(&format!("#define ROPECLOVER_VERSION_{part} {number}\n")));
+    }
+    assert!(include_str!("../../rust/Cargo.toml").contains(&format!("\nversion = \"{version}\"\n")));
+    assert!(include_str!("../../CHANGELOG.md").contains(&format!("\n## {version}")));
+    assert!(include_str!("../../man/ropeclover.1").contains(&format!("ropeclover {version}")));
+}
+
+#[test]
+fn bad_words_end_with_status_2() {
+    for words in [
+        &["sing"][..],
+        &[],
+        &["report", "a", "b"],
+        &["codes", "--numbers", "--all"],
+        &["explain", "--tree", "--dot"],
+        &["explain", "--tree", "--format", "json"],
+        &["report", "--format", "xml"],
+        &["nightly", "--steps", "0"],
+        &["nightly", "--jobs", "0"],
+        &["nightly", "--seed", "x"],
+        &["nightly", "--update"],
+        &["completions", "sh"],
+    ] {
+        let ran = run(words, b"");
+        assert_eq!((ran.status, ran.stdout.as_str()), (Some(2), ""), "{words:?}");
+        assert!(!ran.stderr.is_empty());
+    }
+    run(&["reprot"], b"").says(&["reprot", "report"]);
+    let ran = run(&["explain", "-", "memry"], b"S 0\nI 0\n");
+    assert_eq!(ran.status, Some(2));
+    ran.says(&["'memry' is no symbol: neither a number from 0 to 255 nor a name"]);
+    assert_eq!(run(&["explain", "-", "256"], b"S 0\nI 0\n").status, Some(2));
+    let names = b"name 3 memory\nname 4 tone\nS 3\nI 0\n";
+    run(&["explain", "-", "memry"], names).says(&["'memry' is no symbol", "Did you mean 'memory'?"]);
+    assert!(!run(&["explain", "-", "xyz"], names).stderr.contains("Did you mean"));
+}
+
+/// With its input held open, a command that waited for it would not end.
+#[test]
+fn bad_words_are_told_before_input_is_read() {
+    let mut child = Command::new(COMMAND)
+        .args(["nightly", "--bogus"])
+        .stdin(Stdio::piped())
+        .stdout(Stdio::piped())
+        .stderr(Stdio::piped())
+        .spawn()
+        .unwrap();
+    let open = child.stdin.take();
+    let ran = Ran::of(child.wait_with_output().unwrap());
+    drop(open);
+    assert_eq!(ran.status, Some(2));
+    ran.says(&["--bogus"]);
+}
+
+#[test]
+fn completions_know_the_subcommands() {
+    for shell in ["bash", "zsh", "fish"] {
+        let ran = run(&["completions", shell], b"");
+        assert_eq!(ran.status, Some(0));
+        assert!(ran.stdout.contains("nightly") && ran.stdout.contains("baseline"), "{shell}");
+    }
+}

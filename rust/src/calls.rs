@@ -1,0 +1,239 @@
+//! The library's six functions on lent memory.
+use crate::{ffi, Refusal};
+
+/// What [`advance`] answers.
+///
+/// ```
+/// let job = ropeclover::text::assemble("S 0\nE 0\nI 0\n").unwrap();
+/// let (mut table, mut reasons) = (vec![0; ropeclover::TABLE_BYTES], vec![0; ropeclover::REASONS]);
+/// ropeclover::start(&job, &mut table, &mut reasons).unwrap();
+/// let advanced: ropeclover::Advanced = ropeclover::advance(&job, &mut table, &mut reasons, 0).unwrap();
+/// assert!(!advanced.finished && advanced.steps == 0);
+/// ```
+#[derive(Clone, Copy, Debug, PartialEq, Eq)]
+pub struct Advanced {
+    /// Whether no pending transition is left.
+    pub finished: bool,
+    /// The steps made.
+    pub steps: u64,
+    /// The rise in pair meetings of the done transitions.
+    pub meetings: u64,
+}
+
+/// What [`explain`] answers.
+///
+/// ```
+/// let job = ropeclover::text::assemble("S 0\nI 0\nF 0\n").unwrap();
+/// let (mut table, mut reasons) = (vec![0; ropeclover::TABLE_BYTES], vec![0; ropeclover::REASONS]);
+/// let explained: ropeclover::Explained = ropeclover::explain(&job, &mut table, &mut reasons, &[], &mut []).unwrap();
+/// assert!(explained.accepted && explained.records == 0);
+/// ```
+#[derive(Clone, Copy, Debug, PartialEq, Eq)]
+pub struct Explained {
+    /// Whether the form is accepted.
+    pub accepted: bool,
+    /// The listing records written, 8 bytes each.
+    pub records: usize,
+}
+
+/// What [`verdicts`] answers.
+///
+/// ```
+/// let (verdicts, _) = ropeclover::Workspace::new().verdicts(b"S\0\0\0E\0\0\0").unwrap();
+/// assert_eq!(verdicts, ropeclover::Verdicts { empty: false, growing: false });
+/// ```
+#[derive(Clone, Copy, Debug, PartialEq, Eq)]
+pub struct Verdicts {
+    /// Whether the start symbol derives no terminal string.
+    pub empty: bool,
+    /// Whether some useful symbol derives itself with more around it.
+    pub growing: bool,
+}
+
+fn refused(answer: &[u64]) -> Result<(), Refusal> {
+    match answer[0] {
+        0 => Ok(()),
+        number => Err(Refusal::new(number, answer[1])),
+    }
+}
+
+/// Writes the table and the reasons that the job starts from, and returns its number of states.
+///
+/// ```
+/// let job = ropeclover::text::assemble("S 0\nU 0 32\nI 0\nF 1\nT 0 32 1\n").unwrap();
+/// let (mut table, mut reasons) = (vec![0; ropeclover::TABLE_BYTES], vec![0; ropeclover::REASONS]);
+/// assert_eq!(ropeclover::start(&job, &mut table, &mut reasons), Ok(2));
+/// // The given transition (0, 32, 1) is pending.
+/// assert_eq!(table[32 * 32 + 1], 1);
+/// ```
+///
+/// # Errors
+/// Refusals 10 (table, reasons) and 1 to 9; nothing is written then.
+pub fn start(job: &[u8], table: &mut [u8], reasons: &mut [u16]) -> Result<usize, Refusal> {
+    let mut answer = [0u64; 3];
+    // SAFETY: each pointer comes with its slice's length, the slices are disjoint, and `answer` has the three numbers that are written.
+    unsafe {
+        ffi::ropeclover_start(
+            job.as_ptr(),
+            job.len(),
+            table.as_mut_ptr(),
+            table.len(),
+            reasons.as_mut_ptr(),
+            reasons.len(),
+            answer.as_mut_ptr(),
+        )
+    };
+    refused(&answer)?;
+    Ok(answer[2] as usize)
+}
+
+/// Makes at most `n` steps on a table, whatever it holds.
+///
+/// ```
+/// let job = ropeclover::text::assemble("S 0\nU 0 32\nI 0\nF 1\nT 0 32 1\n").unwrap();
+/// let (mut table, mut reasons) = (vec![0; ropeclover::TABLE_BYTES], vec![0; ropeclover::REASONS]);
+/// ropeclover::start(&job, &mut table, &mut reasons).unwrap();
+/// assert!(!ropeclover::advance(&job, &mut table, &mut reasons, 1).unwrap().finished);
+/// assert!(ropeclover::advance(&job, &mut table, &mut reasons, 1).unwrap().finished);
+/// ```
+///
+/// # Errors
+/// Refusals 10 (table, reasons) and 1 to 9; nothing is written then.
+pub fn advance(job: &[u8], table: &mut [u8], reasons: &mut [u16], n: u64) -> Result<Advanced, Refusal> {
+    let mut answer = [0u64; 5];
+    // SAFETY: as in `start`; five numbers are written.
+    unsafe {
+        ffi::ropeclover_advance(
+            job.as_ptr(),
+            job.len(),
+            table.as_mut_ptr(),
+            table.len(),
+            reasons.as_mut_ptr(),
+            reasons.len(),
+            n,
+            answer.as_mut_ptr(),
+        )
+    };
+    refused(&answer)?;
+    Ok(Advanced { finished: answer[2] == 1, steps: answer[3], meetings: answer[4] })
+}
+
+/// Whether a form is accepted on a table: it leads from the initial state to a final one over the done transitions. On a table that this job's
+/// start and advances have finished, that is whether the form derives a string of the automaton; on any other table it speaks of that table
+/// alone. [`Finished::ask`](crate::Finished::ask) asks a finished one.
+///
+/// ```
+/// let job = ropeclover::text::assemble("S 0\nU 0 32\nI 0\nF 1\nT 0 32 1\n").unwrap();
+/// let (mut table, mut reasons) = (vec![0; ropeclover::TABLE_BYTES], vec![0; ropeclover::REASONS]);
+/// ropeclover::start(&job, &mut table, &mut reasons).unwrap();
+/// ropeclover::advance(&job, &mut table, &mut reasons, u64::MAX).unwrap();
+/// assert_eq!(ropeclover::ask(&job, &table, &[0]), Ok(true));
+/// assert_eq!(ropeclover::ask(&job, &table, &[33]), Ok(false));
+/// ```
+///
+/// # Errors
+/// Refusals 10 (table), 1 to 9, 12 and 11.
+pub fn ask(job: &[u8], table: &[u8], form: &[u8]) -> Result<bool, Refusal> {
+    let mut answer = [0u64; 3];
+    // SAFETY: as in `start`; the table is only read.
+    unsafe {
+        ffi::ropeclover_ask(
+            job.as_ptr(),
+            job.len(),
+            table.as_ptr(),
+            table.len(),
+            form.as_ptr(),
+            form.len(),
+            answer.as_mut_ptr(),
+        )
+    };
+    refused(&answer)?;
+    Ok(answer[2] == 1)
+}
+
+/// Starts, runs to the end, and lists step by step why the form is accepted. [`Workspace::explain`](crate::Workspace::explain) lends a
+/// listing that is long enough.
+///
+/// ```
+/// let job = ropeclover::text::assemble("S 0\nU 0 32\nI 0\nF 1\nT 0 32 1\n").unwrap();
+/// let (mut table, mut reasons) = (vec![0; ropeclover::TABLE_BYTES], vec![0; ropeclover::REASONS]);
+/// let mut listing = [0; 16];
+/// let explained = ropeclover::explain(&job, &mut table, &mut reasons, &[0], &mut listing).unwrap();
+/// assert_eq!((explained.accepted, explained.records), (true, 2));
+/// assert_eq!(&listing, b"\0\x20\x01G\0\0\0\0\0\0\x01U\x20\0\0\0");
+/// ```
+///
+/// # Errors
+/// Refusals 10 (table, reasons), 1 to 9, 12 and 11: nothing is written then. A listing that is too short is refused with 13 and the records
+/// needed; table and reasons are then as after a success.
+pub fn explain(
+    job: &[u8],
+    table: &mut [u8],
+    reasons: &mut [u16],
+    form: &[u8],
+    listing: &mut [u8],
+) -> Result<Explained, Refusal> {
+    let mut answer = [0u64; 4];
+    // SAFETY: as in `start`; four numbers are written.
+    unsafe {
+        ffi::ropeclover_explain(
+            job.as_ptr(),
+            job.len(),
+            table.as_mut_ptr(),
+            table.len(),
+            reasons.as_mut_ptr(),
+            reasons.len(),
+            form.as_ptr(),
+            form.len(),
+            listing.as_mut_ptr(),
+            listing.len(),
+            answer.as_mut_ptr(),
+        )
+    };
+    refused(&answer)?;
+    Ok(Explained { accepted: answer[2] == 1, records: answer[3] as usize })
+}
+
+/// Codes of the 64 symbols (0 named in no rule and not the start, 1 useful, 2 derives no terminal string, 3 never reached from the start),
+/// and whether the language is empty and whether it grows. The table is scratch, left 0. No I record is needed.
+///
+/// ```
+/// let job = ropeclover::text::assemble("S 0\nU 0 32\nU 1 33\n").unwrap();
+/// let mut codes = [0; ropeclover::CODES];
+/// ropeclover::verdicts(&job, &mut vec![0; ropeclover::TABLE_BYTES], &mut codes).unwrap();
+/// assert_eq!((codes[0], codes[1], codes[2]), (1, 3, 0));
+/// ```
+///
+/// # Errors
+/// Refusals 10 (table, codes) and 1 to 8; nothing is written then.
+pub fn verdicts(job: &[u8], table: &mut [u8], codes: &mut [u8]) -> Result<Verdicts, Refusal> {
+    let mut answer = [0u64; 4];
+    // SAFETY: as in `start`; four numbers are written.
+    unsafe {
+        ffi::ropeclover_verdicts(
+            job.as_ptr(),
+            job.len(),
+            table.as_mut_ptr(),
+            table.len(),
+            codes.as_mut_ptr(),
+            codes.len(),
+            answer.as_mut_ptr(),
+        )
+    };
+    refused(&answer)?;
+    Ok(Verdicts { empty: answer[2] == 1, growing: answer[3] == 1 })
+}
+
+/// The four bytes of the record that the job is refused for by 3 to 7, a part of the job itself; else the empty part.
+///
+/// ```
+/// assert_eq!(ropeclover::show_refused(b"S\0\0\0X\x01\x02\x03"), b"X\x01\x02\x03");
+/// assert_eq!(ropeclover::show_refused(b"S\0\0\0"), b"");
+/// ```
+pub fn show_refused(job: &[u8]) -> &[u8] {
+    let mut answer = [0u64; 2];
+    // SAFETY: as in `start`; two numbers are written.
+    unsafe { ffi::ropeclover_show(job.as_ptr(), job.len(), answer.as_mut_ptr()) };
+    let (at, length) = (answer[0] as usize, answer[1] as usize);
+    &job[at..at + length]
+}

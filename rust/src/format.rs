@@ -1,0 +1,92 @@
+//! The record format: the kinds, and the class of each field.
+
+/// What a field of a record may hold.
+///
+/// ```
+/// use ropeclover::format::Class;
+/// assert!(Class::Symbol.holds(63) && !Class::Symbol.holds(64));
+/// assert!(Class::Unused.holds(0) && !Class::Unused.holds(1));
+/// ```
+#[derive(Clone, Copy, Debug, PartialEq, Eq)]
+pub enum Class {
+    /// A field that the kind does not use: 0.
+    Unused,
+    /// A variable: 0 to 31.
+    Variable,
+    /// A variable or a terminal: 0 to 63.
+    Symbol,
+    /// A state: 0 to 31.
+    State,
+}
+
+impl Class {
+    /// Whether a byte is in the class.
+    ///
+    /// ```
+    /// use ropeclover::format::Class;
+    /// assert!(Class::State.holds(31) && !Class::State.holds(32));
+    /// ```
+    pub fn holds(self, byte: u8) -> bool {
+        match self {
+            Class::Unused => byte == 0,
+            Class::Variable | Class::State => byte < 32,
+            Class::Symbol => byte < 64,
+        }
+    }
+
+    /// What the class is, as a message says it.
+    ///
+    /// ```
+    /// use ropeclover::format::Class;
+    /// assert_eq!(Class::Variable.description(), "a variable, 0 to 31");
+    /// ```
+    pub fn description(self) -> &'static str {
+        match self {
+            Class::Unused => "unused, so 0",
+            Class::Variable => "a variable, 0 to 31",
+            Class::Symbol => "a symbol, 0 to 63",
+            Class::State => "a state, 0 to 31",
+        }
+    }
+}
+
+/// The classes of a kind's three fields; none for a byte that is no kind.
+///
+/// ```
+/// use ropeclover::format::{classes, Class};
+/// assert_eq!(classes(b'U'), Some([Class::Variable, Class::Symbol, Class::Unused]));
+/// assert_eq!(classes(b'X'), None);
+/// ```
+pub fn classes(kind: u8) -> Option<[Class; 3]> {
+    use Class::{State, Symbol, Unused, Variable};
+    match kind {
+        b'E' | b'S' => Some([Variable, Unused, Unused]),
+        b'U' => Some([Variable, Symbol, Unused]),
+        b'P' => Some([Variable, Variable, Variable]),
+        b'T' => Some([State, Symbol, State]),
+        b'I' | b'F' => Some([State, Unused, Unused]),
+        _ => None,
+    }
+}
+
+/// The start symbol of a job that has an S record.
+///
+/// ```
+/// assert_eq!(ropeclover::format::start_symbol(b"U\x03\x20\0S\x03\0\0"), Some(3));
+/// assert_eq!(ropeclover::format::start_symbol(b""), None);
+/// ```
+pub fn start_symbol(job: &[u8]) -> Option<u8> {
+    job.chunks_exact(4).find(|record| record[0] == b'S').map(|record| record[1])
+}
+
+/// The first field, 1 to 3, that is outside its class.
+///
+/// ```
+/// use ropeclover::format::bad_field;
+/// assert_eq!(bad_field([b'P', 0, 40, 50]), Some(2));
+/// assert_eq!(bad_field([b'P', 0, 1, 2]), None);
+/// ```
+pub fn bad_field(record: [u8; 4]) -> Option<usize> {
+    let classes = classes(record[0])?;
+    (1..4).find(|field| !classes[field - 1].holds(record[*field]))
+}

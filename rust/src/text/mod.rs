@@ -1,0 +1,45 @@
+//! Jobs as text, one record a line.
+//!
+//! ```text
+//! # A comment goes to the end of its line; empty lines count for nothing.
+//! name 0 command          # symbol 0 may be written as command
+//! name 32 "F"             # symbol 32 as "F", quotes included
+//! state 1 tuned           # state 1 as tuned
+//! S command               # fields left out are 0
+//! U command "F"
+//! I 0
+//! F tuned
+//! T 0 "F" tuned
+//! ```
+//!
+//! A line `name NUMBER NAME` names a symbol, `state NUMBER NAME` a state. A name is a letter or `_` followed by letters, digits, `_`, `-` and `.`,
+//! or a string in double quotes, in which `\"` and `\\` stand for a quote and a backslash. Name lines may stand anywhere. Symbols and states
+//! have names apart, and a record's field takes the names of its class.
+mod error;
+mod names;
+mod parse;
+mod print;
+mod words;
+
+pub use error::{Problem, Span, TextError, UnknownSymbol};
+pub use names::Names;
+pub use parse::{read, RecordPlace, Text};
+pub use print::{disassemble, spelling};
+pub use words::plain;
+
+/// The job that a text spells. The job itself is not checked.
+///
+/// ```
+/// use ropeclover::text::assemble;
+/// assert_eq!(assemble("S 0\nP 0 1 1 # a rule\n").unwrap(), b"S\0\0\0P\0\x01\x01");
+/// assert_eq!(assemble("S 0\nP 0 1 x\n").unwrap_err().to_string(), "line 2: 'x' is no number from 0 to 255, and no symbol has this name");
+/// ```
+///
+/// # Errors
+/// The first thing in the text that is no part of the format; [`read`] gives all of them.
+pub fn assemble(text: &str) -> Result<Vec<u8>, TextError> {
+    match read(text) {
+        Ok(text) => Ok(text.job),
+        Err(mut errors) => Err(errors.remove(0)),
+    }
+}

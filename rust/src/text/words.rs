@@ -1,0 +1,128 @@
+//! The words of a line.
+
+/// A word of a line, and its bytes' place in it.
+#[derive(Clone, Copy, Debug, PartialEq, Eq)]
+pub(crate) struct Word<'a> {
+    /// The word; a string with its quotes.
+    pub text: &'a str,
+    /// Its first byte's offset in the line.
+    pub start: usize,
+}
+
+impl Word<'_> {
+    /// The offset behind its last byte.
+    pub fn end(&self) -> usize {
+        self.start + self.text.len()
+    }
+}
+
+/// The length of the word that the text begins with: a string up to its closing quote, else up to a blank, a string or a comment, where there are
+/// any. None for a string that does not end.
+fn word_length(text: &str, comments: bool) -> Option<usize> {
+    if !text.starts_with('"') {
+        let ends = |c: char| c.is_whitespace() || c == '"' || (comments && c == '#');
+        return Some(text.find(ends).unwrap_or(text.len()));
+    }
+    let mut escaped = false;
+    for (at, c) in text.char_indices().skip(1) {
+        match c {
+            _ if escaped => escaped = false,
+            '\\' => escaped = true,
+            '"' => return Some(at + 1),
+            _ => {}
+        }
+    }
+    None
+}
+
+/// The words of a line without its comment, or the place of a string that does not end.
+pub(crate) fn words(line: &str) -> Result<Vec<Word<'_>>, usize> {
+    split(line, true)
+}
+
+/// The words of a form, which has no comments, or the place of a string that does not end.
+pub(crate) fn form_words(form: &str) -> Result<Vec<Word<'_>>, usize> {
+    split(form, false)
+}
+
+fn split(line: &str, comments: bool) -> Result<Vec<Word<'_>>, usize> {
+    let mut words = Vec::new();
+    let mut at = 0;
+    loop {
+        let rest = &line[at..];
+        let start = at + (rest.len() - rest.trim_start().len());
+        let rest = &line[start..];
+        if rest.is_empty() || (comments && rest.starts_with('#')) {
+            return Ok(words);
+        }
+        let length = word_length(rest, comments).ok_or(start)?;
+        words.push(Word { text: &rest[..length], start });
+        at = start + length;
+    }
+}
+
+/// The longest name, and the longest part of a word that a message repeats, in characters.
+pub(crate) const NAME_CHARACTERS: usize = 64;
+
+/// Whether a word may be a name.
+pub(crate) fn is_name(word: &str) -> bool {
+    if word.chars().count() > NAME_CHARACTERS {
+        return false;
+    }
+    if let Some(inner) = word.strip_prefix('"') {
+        return word.len() > 2 && inner.chars().all(|c| c == ' ' || c.is_ascii_graphic() || c.is_alphanumeric());
+    }
+    word.starts_with(|c: char| c.is_alphabetic() || c == '_')
+        && word.chars().all(|c| c.is_alphanumeric() || matches!(c, '_' | '-' | '.'))
+}
+
+/// Text for a message: control characters spelled out, and cut where it is long, so that input cannot disturb a terminal or flood it.
+///
+/// ```
+/// use ropeclover::text::plain;
+/// assert_eq!(plain("\x1b[2J"), "\\u{1b}[2J");
+/// assert_eq!(plain(&"x".repeat(1_000)).chars().count(), 65);
+/// ```
+pub fn plain(text: &str) -> String {
+    let mut short = String::new();
+    for (at, c) in text.chars().enumerate() {
+        if at == NAME_CHARACTERS {
+            short.push('…');
+            break;
+        }
+        if c.is_ascii_graphic() || c == ' ' || c.is_alphanumeric() {
+            short.push(c);
+        } else {
+            short.extend(c.escape_default());
+        }
+    }
+    short
+}
+
+#[cfg(test)]
+mod tests {
+    use super::{is_name, words};
+
+    fn texts(line: &str) -> Vec<&str> {
+        words(line).unwrap().iter().map(|word| word.text).collect()
+    }
+
+    #[test]
+    fn comments_and_strings() {
+        assert_eq!(texts("  P 0\t1 2# rule"), ["P", "0", "1", "2"]);
+        assert_eq!(texts(r##"name 40 "#" # hash"##), ["name", "40", "\"#\""]);
+        assert_eq!(texts(r#"name 40 "\"""#), ["name", "40", r#""\"""#]);
+        assert_eq!(texts("# nothing"), Vec::<&str>::new());
+        assert_eq!(words("U 0 \"F"), Err(4));
+    }
+
+    #[test]
+    fn names() {
+        for name in ["memory", "_x", "old-scan.2", "\"S\"", "\" \"", "Größe"] {
+            assert!(is_name(name), "{name}");
+        }
+        for word in ["", "3", "3a", "\"\"", "a b", "-x", "\"\x1b\"", "a\u{202e}"] {
+            assert!(!is_name(word), "{word}");
+        }
+    }
+}
