@@ -31,14 +31,14 @@ fn report(job: &[u8], needed: bool) {
 
 // Writes the answer on the first n bytes of a buffer.
 fn report_first(buffer: &[u8], n: usize, needed: bool)
-    requires { ⌜ n ≤ length (now buffer) ⌝ }
+    requires within { ⌜ n ≤ length (now buffer) ⌝ }
 {
     report(&buffer[..n], needed);
 }
 
 // Makes r record i of a job.
 fn put(job: &mut [u8], i: usize, r: JobRecord)
-    requires { ⌜ 4 * i + 4 ≤ length (now job) ⌝ }
+    requires room { ⌜ 4 * i + 4 ≤ length (now job) ⌝ }
 {
     let at = 4 * i;
     job[at] = r.kind;
@@ -59,7 +59,7 @@ fn numbered(kind: u8, i: usize) -> JobRecord {
 
 // Makes the first n records of a job different ones of a kind.
 fn fill(job: &mut [u8], n: usize, kind: u8)
-    requires { ⌜ 4 * n ≤ length (now job) ⌝ }
+    requires room { ⌜ 4 * n ≤ length (now job) ⌝ }
 {
     let mut i = 0;
     while i < n {

@@ -23,14 +23,14 @@ struct Word {
 
 // A byte as a number.
 fn value(byte: u8) -> usize
-    ensures { λ r. ⌜ r ≡ byte ⌝ }
+    ensures value { λ r. ⌜ r ≡ byte ⌝ }
 {
     byte as usize
 }
 
 // The number with one digit more, 256 where it is no digit or the number is past 255.
 fn with_digit(n: usize, digit: u8) -> usize
-    ensures { λ r. ⌜ r ≤ 256 ⌝ }
+    ensures bounded { λ r. ⌜ r ≤ 256 ⌝ }
 {
     if digit < b'0' {
         return 256;
@@ -83,7 +83,7 @@ fn word_at(i: usize) -> Word {
 
 // Fills the form with the words of the command line; false where one is no symbol.
 fn read_form(form: &mut [u8], count: usize) -> bool
-    requires { ⌜ count ≤ length (now form) ⌝ }
+    requires within { ⌜ count ≤ length (now form) ⌝ }
 {
     let mut i = 0;
     while i < count {

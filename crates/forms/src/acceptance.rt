@@ -1,5 +1,6 @@
 // From which states the rest of a form can finish, and the accepting state sequence that comes first.
 use crate::FINISH_FLAGS;
+use saturation::STATE_PLACES;
 ghost use mathlib.Core.Path.{_≡_};
 ghost use mathlib.Core.Bool.{true, _&&_};
 ghost use Prim.Native.Nat.{_+_, _<_, _≤_};
@@ -23,11 +24,17 @@ fn step_finishes(table: &[u8], finish: &[u8; FINISH_FLAGS], place: usize, target
 
 // The lowest state to which a transition done with a symbol leads and from which the form can finish at the position
 // after it, 32 where there is none.
-fn next_state(table: &[u8], finish: &[u8; FINISH_FLAGS], symbol: usize, next: usize, q: usize) -> usize
+fn next_state(
+    table: &[u8],
+    finish: &[u8; FINISH_FLAGS],
+    symbol: usize,
+    next: usize,
+    q: usize,
+) -> usize
     requires within { ⌜ (tableSize ≤ length (now table)) × (symbol ≤ 63) × (next ≤ 64) × (q < 32) ⌝ }
     ensures first { λ r. ⌜ r ≡ firstFrom (goesOn (now (table .entry)) (now (finish .entry)) symbol next q) 0 32 ⌝ }
 {
-    let from = q * 2048 + symbol * 32;
+    let from = q * STATE_PLACES + symbol * 32;
     let row = next * 32;
     let mut r = 0;
     while r < 32 {
@@ -67,7 +74,7 @@ fn fill_row(table: &[u8], finish: &mut [u8; FINISH_FLAGS], symbol: usize, positi
 }
 
 // The row of flags of the end of the form: those of the final states.
-fn fill_finals(finals: &[u8; 32], finish: &mut [u8; FINISH_FLAGS], end: usize)
+fn fill_finals(finals: &[u8; job::STATES], finish: &mut [u8; FINISH_FLAGS], end: usize)
     requires within { ⌜ (end ≤ 64) × (length (now finish) ≡ 2080) ⌝ }
     ensures filled { λ _. ⌜
         RowFilled (now (finish .entry)) (now (finish .exit)) end (λ q. getD (now (finals .entry)) q 0) 32 ⌝ }
@@ -81,7 +88,12 @@ fn fill_finals(finals: &[u8; 32], finish: &mut [u8; FINISH_FLAGS], end: usize)
 }
 
 // Fills a flag for each position of the form and each state: 1 where the form from there on leads to a final state.
-pub fn fill_finish(table: &[u8], form: &[u8], finals: &[u8; 32], finish: &mut [u8; FINISH_FLAGS])
+pub fn fill_finish(
+    table: &[u8],
+    form: &[u8],
+    finals: &[u8; job::STATES],
+    finish: &mut [u8; FINISH_FLAGS],
+)
     requires fits { ⌜ (tableSize ≤ length (now table)) × FormFits (now form) × (length (now finish) ≡ 2080) ⌝ }
     ensures flags { λ _. ⌜
         FinishFlags (flagged (now (finals .entry))) (now (table .entry)) (now (form .entry)) (now (finish .exit)) ⌝ }
@@ -117,7 +129,7 @@ pub fn fill_route(
     while i < form.len() {
         let symbol = form[i] as usize;
         let r = next_state(table, finish, symbol, i + 1, at);
-        places[i] = (at * 2048 + symbol * 32 + r) as u16;
+        places[i] = (at * STATE_PLACES + symbol * 32 + r) as u16;
         at = r;
         i += 1;
     }

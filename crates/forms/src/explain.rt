@@ -117,6 +117,6 @@ pub fn explain(
         };
     }
     saturation::begin::begin(job, table, reasons);
-    saturation::run::run(job, table, reasons, 65536);
+    saturation::run::run(job, table, reasons, saturation::MOST_STEPS);
     explain_finished(job, table, reasons, form, listing)
 }

@@ -9,9 +9,6 @@ pub mod theorems;
 // A flag for each of the 65 positions of a form and each of the 32 states.
 pub const FINISH_FLAGS: usize = 2080;
 
-// The reason of a given transition.
-pub const GIVEN_REASON: u16 = 65535;
-
 // What ask answers: a refusal's number and place, 0 and 0 where nothing is refused, and whether the form is accepted.
 pub struct Asked {
     pub number: usize,

@@ -1,9 +1,11 @@
 // The listing: depth first down the reasons, premises before what they explain, each transition once. The path is
 // kept in a local array, as a chain of reasons can be tens of thousands long. Rules are read from their sort keys, at
 // their ranks.
-use crate::GIVEN_REASON;
 use crate::PathWalk;
 use crate::ReasonBytes;
+use saturation::GIVEN_REASON;
+use saturation::STATE_PLACES;
+use saturation::STATE_REASONS;
 ghost use mathlib.Core.Path.{_≡_};
 ghost use mathlib.Core.Bool.{cond};
 ghost use mathlib.Core.List.{[], _∷_};
@@ -34,7 +36,7 @@ fn reason_at(reasons: &[u16], p: usize) -> u16
     if terminal_at(p) {
         return GIVEN_REASON;
     }
-    reasons[p / 2048 * 1024 + p / 32 % 64 * 32 + p % 32]
+    reasons[p / STATE_PLACES * STATE_REASONS + p / 32 % 64 * 32 + p % 32]
 }
 
 // The bytes of a rule with a middle state in a record.
@@ -106,11 +108,11 @@ fn next_premise(table: &[u8], reasons: &[u16], keys: &[u32], p: usize) -> usize
         ≡ firstUnlisted (now (table .entry)) (premises (rulesOf (now (keys .entry))) (now (reasons .entry)) p) ⌝ }
 {
     let why = reason_bytes(reasons, keys, p);
-    let from = p / 2048;
+    let from = p / STATE_PLACES;
     let to = p % 32;
     let second = why.second as usize;
     if why.kind == b'U' {
-        let a = from * 2048 + second * 32 + to;
+        let a = from * STATE_PLACES + second * 32 + to;
         return first_unlisted(table, a, a);
     }
     if why.kind == b'P' {
@@ -118,8 +120,8 @@ fn next_premise(table: &[u8], reasons: &[u16], keys: &[u32], p: usize) -> usize
         let third = why.third as usize;
         return first_unlisted(
             table,
-            from * 2048 + second * 32 + middle,
-            middle * 2048 + third * 32 + to,
+            from * STATE_PLACES + second * 32 + middle,
+            middle * STATE_PLACES + third * 32 + to,
         );
     }
     job::TABLE_BYTES
@@ -133,7 +135,7 @@ fn write_record(reasons: &[u16], keys: &[u32], p: usize, listing: &mut [u8], at:
         ≡ sets (now (listing .entry)) at (recordOf (rulesOf (now (keys .entry))) (now (reasons .entry)) p) ⌝ }
 {
     let why = reason_bytes(reasons, keys, p);
-    listing[at] = (p / 2048) as u8;
+    listing[at] = (p / STATE_PLACES) as u8;
     listing[at + 1] = (p / 32 % 64) as u8;
     listing[at + 2] = (p % 32) as u8;
     listing[at + 3] = why.kind;

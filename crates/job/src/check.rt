@@ -16,7 +16,7 @@ ghost use Rattle.job.specs.Inside.Walk.{formFault, orderFault, counted, 
 
 // 3 or 4 where the record itself is at fault, else 0.
 pub fn form_fault(r: JobRecord) -> usize
-    ensures { λ n. ⌜ n ≡ formFault r ⌝ }
+    ensures fault { λ n. ⌜ n ≡ formFault r ⌝ }
 {
     if format::kind_row(r.kind) == 7 {
         return 3;
@@ -29,7 +29,7 @@ pub fn form_fault(r: JobRecord) -> usize
 
 // 6 or 7 where the record is one too many after those that were counted, else 0.
 pub fn order_fault(limits: Limits, seen: Tally, r: JobRecord) -> usize
-    ensures { λ n. ⌜ n ≡ orderFault limits seen r ⌝ }
+    ensures fault { λ n. ⌜ n ≡ orderFault limits seen r ⌝ }
 {
     if r.kind == b'S' {
         if 0 < seen.starts {
@@ -53,8 +53,8 @@ pub fn order_fault(limits: Limits, seen: Tally, r: JobRecord) -> usize
 
 // The tally with one record more.
 pub fn count_in(seen: Tally, r: JobRecord) -> Tally
-    requires { ⌜ (seen .rules < 4096) × (seen .starts < 4096) × (seen .initials < 4096) ⌝ }
-    ensures { λ t. ⌜ t ≡ counted seen r ⌝ }
+    requires few { ⌜ (seen .rules < 4096) × (seen .starts < 4096) × (seen .initials < 4096) ⌝ }
+    ensures counted { λ t. ⌜ t ≡ counted seen r ⌝ }
 {
     Tally {
         rules: seen.rules + one_if(format::is_rule(r)) as usize,
@@ -65,7 +65,7 @@ pub fn count_in(seen: Tally, r: JobRecord) -> Tally
 
 // Refusals 8 and 9, by what was counted in all records.
 fn missing_kind(seen: Tally, needed: bool, count: usize) -> Checked
-    ensures { λ r. ⌜ r ≡ missingBy needed seen count ⌝ }
+    ensures missing { λ r. ⌜ r ≡ missingBy needed seen count ⌝ }
 {
     if seen.starts == 0 {
         return Checked {
@@ -89,7 +89,7 @@ fn missing_kind(seen: Tally, needed: bool, count: usize) -> Checked
 
 // The refusal of a record by a number.
 fn refuse(number: usize, index: usize, r: JobRecord) -> Checked
-    ensures { λ c. ⌜ c ≡ refused number (recordPlace number index r) ⌝ }
+    ensures refused { λ c. ⌜ c ≡ refused number (recordPlace number index r) ⌝ }
 {
     Checked {
         number,
@@ -100,8 +100,8 @@ fn refuse(number: usize, index: usize, r: JobRecord) -> Checked
 // Refusals 3 to 9 on the records of a job of whole records. Each record is compared with all before it; at a match the
 // search stops at once, out of both walks.
 pub fn check_records(job: &[u8], limits: Limits, needed: bool) -> Checked
-    requires { ⌜ (length (now job) ≤ 16384) × (length (now job) % 4 ≡ 0) ⌝ }
-    ensures { λ r. ⌜ r ≡ orElse (firstFault limits [] (recordsOf (now (job .entry))))
+    requires whole { ⌜ (length (now job) ≤ 16384) × (length (now job) % 4 ≡ 0) ⌝ }
+    ensures checked { λ r. ⌜ r ≡ orElse (firstFault limits [] (recordsOf (now (job .entry))))
         (missing needed (recordsOf (now (job .entry)))) ⌝ }
 {
     let count = job.len() / 4;
@@ -139,7 +139,7 @@ pub fn check_records(job: &[u8], limits: Limits, needed: bool) -> Checked
 
 // All checks of a job's bytes. `needed`: whether an I record is needed.
 pub fn check(job: &[u8], limits: Limits, needed: bool) -> Checked
-    ensures { λ r. ⌜ r ≡ checkOf limits needed (now (job .entry)) ⌝ }
+    ensures checked { λ r. ⌜ r ≡ checkOf limits needed (now (job .entry)) ⌝ }
 {
     let n = job.len();
     if JOB_BYTES < n {

@@ -7,8 +7,8 @@ ghost use Rattle.job.specs.Clear.{cleared};
 
 // Makes the first 65,536 bytes 0.
 pub fn clear_table(table: &mut [u8])
-    requires { ⌜ 65536 ≤ length (now table) ⌝ }
-    ensures { λ _. ⌜ now (table .exit) ≡ cleared 65536 (now (table .entry)) ⌝ }
+    requires long { ⌜ 65536 ≤ length (now table) ⌝ }
+    ensures cleared { λ _. ⌜ now (table .exit) ≡ cleared 65536 (now (table .entry)) ⌝ }
 {
     let mut i = 0;
     while i < TABLE_BYTES {

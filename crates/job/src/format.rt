@@ -23,7 +23,7 @@ const FIELD_CLASSES: [[FieldClass; 3]; 7] = [
 
 // The row of a kind byte in the table, 7 for an unknown one.
 pub fn kind_row(kind: u8) -> usize
-    ensures { λ r. ⌜ r ≡ rowOf kind ⌝ }
+    ensures row { λ r. ⌜ r ≡ rowOf kind ⌝ }
 {
     match kind {
         b'E' => 0,
@@ -39,15 +39,15 @@ pub fn kind_row(kind: u8) -> usize
 
 // The class of a field in a row of the table.
 pub fn field_class(row: usize, field: usize) -> FieldClass
-    requires { ⌜ (row < 7) × (field < 3) ⌝ }
-    ensures { λ r. ⌜ r ≡ classAt row field ⌝ }
+    requires within { ⌜ (row < 7) × (field < 3) ⌝ }
+    ensures class { λ r. ⌜ r ≡ classAt row field ⌝ }
 {
     FIELD_CLASSES[row][field]
 }
 
 // Whether a byte is of a class.
 pub fn in_class(class: FieldClass, value: u8) -> bool
-    ensures { λ r. ⌜ r ≡ inClass class value ⌝ }
+    ensures says { λ r. ⌜ r ≡ inClass class value ⌝ }
 {
     match class {
         FieldClass::Zero => value == 0,
@@ -59,16 +59,16 @@ pub fn in_class(class: FieldClass, value: u8) -> bool
 
 // Whether a byte is of the class of a field in a row of the table.
 fn field_fits(row: usize, field: usize, value: u8) -> bool
-    requires { ⌜ (row < 7) × (field < 3) ⌝ }
-    ensures { λ ok. ⌜ ok ≡ inClass (classAt row field) value ⌝ }
+    requires within { ⌜ (row < 7) × (field < 3) ⌝ }
+    ensures says { λ ok. ⌜ ok ≡ inClass (classAt row field) value ⌝ }
 {
     in_class(field_class(row, field), value)
 }
 
 // The first field, 1 to 3, of a record of a known kind that is not of its class; 0 for none.
 pub fn bad_field(r: JobRecord) -> usize
-    requires { ⌜ rowOf (r .kind) < 7 ⌝ }
-    ensures { λ n. ⌜ n ≡ badField r ⌝ }
+    requires known { ⌜ rowOf (r .kind) < 7 ⌝ }
+    ensures field { λ n. ⌜ n ≡ badField r ⌝ }
 {
     let row = kind_row(r.kind);
     if !field_fits(row, 0, r.first) {
@@ -85,7 +85,7 @@ pub fn bad_field(r: JobRecord) -> usize
 
 // Whether a kind byte is that of a rule.
 pub fn is_rule(r: JobRecord) -> bool
-    ensures { λ ok. ⌜ ok ≡ isRule r ⌝ }
+    ensures says { λ ok. ⌜ ok ≡ isRule r ⌝ }
 {
     let kind = r.kind;
     match kind {
@@ -96,8 +96,8 @@ pub fn is_rule(r: JobRecord) -> bool
 
 // Record i of a job.
 pub fn record_at(job: &[u8], i: usize) -> JobRecord
-    requires { ⌜ 4 * i + 4 ≤ length (now job) ⌝ }
-    ensures { λ r. ⌜ r ≡ getD (recordsOf (now (job .entry))) i noRecord ⌝ }
+    requires within { ⌜ 4 * i + 4 ≤ length (now job) ⌝ }
+    ensures record { λ r. ⌜ r ≡ getD (recordsOf (now (job .entry))) i noRecord ⌝ }
 {
     let at = 4 * i;
     JobRecord {
@@ -110,8 +110,8 @@ pub fn record_at(job: &[u8], i: usize) -> JobRecord
 
 // Whether record i of a job is the four bytes of r. Field 2 takes the most values, so it is compared first.
 pub fn alike(job: &[u8], i: usize, r: JobRecord) -> bool
-    requires { ⌜ 4 * i + 4 ≤ length (now job) ⌝ }
-    ensures { λ ok. ⌜ ok ≡ same (getD (recordsOf (now (job .entry))) i noRecord) r ⌝ }
+    requires within { ⌜ 4 * i + 4 ≤ length (now job) ⌝ }
+    ensures says { λ ok. ⌜ ok ≡ same (getD (recordsOf (now (job .entry))) i noRecord) r ⌝ }
 {
     let at = 4 * i;
     if job[at + 2] != r.second {

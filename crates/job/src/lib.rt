@@ -16,6 +16,12 @@ pub const JOB_BYTES: usize = 16384;
 // The most rules that a job may have.
 pub const RULES: usize = 256;
 
+// How many symbols there are: 32 variables and 32 terminals.
+pub const SYMBOLS: usize = 64;
+
+// How many states there are.
+pub const STATES: usize = 32;
+
 // The most symbols that a form may have.
 pub const FORM_SYMBOLS: usize = 64;
 
@@ -78,7 +84,7 @@ pub struct Tally {
 
 // 1 for true, 0 for false.
 pub fn one_if(yes: bool) -> u8
-    ensures { λ n. ⌜ n ≡ one-if yes ⌝ }
+    ensures number { λ n. ⌜ n ≡ one-if yes ⌝ }
 {
     if yes {
         return 1;

@@ -1,5 +1,6 @@
 // What the records of a job say: the number of states, the start symbol, the initial and the final states.
 use crate::JobRecord;
+use crate::STATES;
 use crate::format;
 use crate::one_if;
 ghost use mathlib.Core.Path.{_≡_};
@@ -11,7 +12,7 @@ ghost use Rattle.job.specs.Job.{fieldOf, statesIn, statesOf, jobOf};
 
 // The larger of two numbers.
 fn larger(a: usize, b: usize) -> usize
-    ensures { λ n. ⌜ n ≡ max a b ⌝ }
+    ensures larger { λ n. ⌜ n ≡ max a b ⌝ }
 {
     if a < b {
         return b;
@@ -21,7 +22,7 @@ fn larger(a: usize, b: usize) -> usize
 
 // One more than the largest state in a record, 0 if it names none.
 fn states_in(r: JobRecord) -> usize
-    ensures { λ n. ⌜ n ≡ statesIn r ⌝ }
+    ensures states { λ n. ⌜ n ≡ statesIn r ⌝ }
 {
     let first = r.first as usize;
     let third = r.third as usize;
@@ -39,7 +40,7 @@ fn states_in(r: JobRecord) -> usize
 
 // The number of states: one more than the largest state in any T, I or F record, 0 where no record names a state.
 pub fn state_count(job: &[u8]) -> usize
-    ensures { λ n. ⌜ n ≡ statesOf (recordsOf (now (job .entry))) ⌝ }
+    ensures states { λ n. ⌜ n ≡ statesOf (recordsOf (now (job .entry))) ⌝ }
 {
     let count = job.len() / 4;
     let mut states = 0;
@@ -53,7 +54,7 @@ pub fn state_count(job: &[u8]) -> usize
 
 // Field 1 of the first record of a kind, 0 where there is none: the start symbol for S, the initial state for I.
 pub fn field_of(job: &[u8], kind: u8) -> u8
-    ensures { λ x. ⌜ x ≡ fieldOf kind (recordsOf (now (job .entry))) ⌝ }
+    ensures field { λ x. ⌜ x ≡ fieldOf kind (recordsOf (now (job .entry))) ⌝ }
 {
     let count = job.len() / 4;
     let mut i = 0;
@@ -69,7 +70,7 @@ pub fn field_of(job: &[u8], kind: u8) -> u8
 
 // Whether a record stands in the job: a given transition, a final state.
 pub fn has_record(job: &[u8], r: JobRecord) -> bool
-    ensures { λ ok. ⌜ ok ≡ has (recordsOf (now (job .entry))) r ⌝ }
+    ensures says { λ ok. ⌜ ok ≡ has (recordsOf (now (job .entry))) r ⌝ }
 {
     let count = job.len() / 4;
     let mut i = 0;
@@ -83,10 +84,10 @@ pub fn has_record(job: &[u8], r: JobRecord) -> bool
 }
 
 // A flag for each state: 1 where it is final, else 0.
-pub fn final_states(job: &[u8]) -> [u8; 32]
-    ensures { λ flags. ⌜ ((q : ℕ) → q < 32 → getD flags q 0 ≡ one-if (jobOf (now (job .entry)) .final q)) ⌝ }
+pub fn final_states(job: &[u8]) -> [u8; STATES]
+    ensures flags { λ flags. ⌜ ((q : ℕ) → q < 32 → getD flags q 0 ≡ one-if (jobOf (now (job .entry)) .final q)) ⌝ }
 {
-    let mut flags = [0u8; 32];
+    let mut flags = [0u8; STATES];
     let mut q: u8 = 0;
     while q < 32 {
         let r = JobRecord {

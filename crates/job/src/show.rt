@@ -11,15 +11,15 @@ ghost use Rattle.job.specs.Show.{partOf, shownPart, shownOf};
 
 // 256 rules.
 pub fn full_limits() -> Limits
-    ensures { λ r. ⌜ r ≡ fullLimits ⌝ }
+    ensures limits { λ r. ⌜ r ≡ fullLimits ⌝ }
 {
     Limits { rules: RULES }
 }
 
 // The part of a job that a check's answer names: the record that is refused by 3 to 7, else the empty part.
 pub fn part_of(c: Checked) -> Part
-    requires { ⌜ (3 ≤ c .number → c .number ≤ 7 → c .place < 4096) ⌝ }
-    ensures { λ p. ⌜ p ≡ partOf c ⌝ }
+    requires within { ⌜ (3 ≤ c .number → c .number ≤ 7 → c .place < 4096) ⌝ }
+    ensures part { λ p. ⌜ p ≡ partOf c ⌝ }
 {
     if c.number < 3 {
         return Part {
@@ -41,14 +41,14 @@ pub fn part_of(c: Checked) -> Part
 
 // The part of the record that the job is refused for by 3 to 7, else the empty part.
 pub fn shown_part(job: &[u8]) -> Part
-    ensures { λ p. ⌜ p ≡ shownPart (now (job .entry)) ⌝ }
+    ensures part { λ p. ⌜ p ≡ shownPart (now (job .entry)) ⌝ }
 {
     part_of(check::check(job, full_limits(), false))
 }
 
 // The bytes of that part.
 pub fn show_refused(job: &[u8]) -> &[u8]
-    ensures { λ r. ⌜ now r ≡ shownOf (now (job .entry)) ⌝ }
+    ensures shown { λ r. ⌜ now r ≡ shownOf (now (job .entry)) ⌝ }
 {
     let part = shown_part(job);
     let from = part.offset;

@@ -7,30 +7,30 @@ ghost use Rattle.job.specs.Theorems.StateCount.{StateCount};
 
 // The checks accept a job exactly where it is accepted by what its records are, whatever their order.
 pub fn check_accepts()
-    ensures { λ r. ⌜ CheckAccepts ⌝ }
+    ensures theorem { λ r. ⌜ CheckAccepts ⌝ }
 {}
 
 // The numbers of an accepted job are in range.
 pub fn accepted_in_range()
-    ensures { λ r. ⌜ AcceptedInRange ⌝ }
+    ensures theorem { λ r. ⌜ AcceptedInRange ⌝ }
 {}
 
 // Of two jobs with the same records each is accepted if the other is.
 pub fn accepted_alike()
-    ensures { λ r. ⌜ AcceptedAlike ⌝ }
+    ensures theorem { λ r. ⌜ AcceptedAlike ⌝ }
 {}
 
 // Two accepted jobs with the same records have the same canonical job.
 pub fn same_job()
-    ensures { λ r. ⌜ SameJob ⌝ }
+    ensures theorem { λ r. ⌜ SameJob ⌝ }
 {}
 
 // A rule's rank is the number of rules that sort before it.
 pub fn rank_counts()
-    ensures { λ r. ⌜ RankCounts ⌝ }
+    ensures theorem { λ r. ⌜ RankCounts ⌝ }
 {}
 
 // The number of states is the least that is above each state that a T, I or F record names.
 pub fn state_count_is_least()
-    ensures { λ r. ⌜ StateCount ⌝ }
+    ensures theorem { λ r. ⌜ StateCount ⌝ }
 {}

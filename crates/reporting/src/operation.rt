@@ -1,9 +1,9 @@
 // The report, for every input.
-use crate::RUN_STEPS;
 use job::CODE_BYTES;
 use job::Checked;
 use job::REASON_NUMBERS;
 use job::TABLE_BYTES;
+use saturation::MOST_STEPS;
 use text::Report;
 ghost use mathlib.Core.Path.{_≡_};
 ghost use mathlib.Core.Bool.{false};
@@ -64,7 +64,7 @@ pub fn report(job: &[u8], table: &mut [u8], reasons: &mut [u16], codes: &mut [u8
         return refused(c);
     }
     let started = saturation::operations::start(job, table, reasons);
-    let advanced = saturation::operations::advance(job, table, reasons, RUN_STEPS);
+    let advanced = saturation::operations::advance(job, table, reasons, MOST_STEPS);
     let form = [job::lookup::field_of(job, b'S')];
     let asked = forms::ask::ask(job, table, &form);
     let judged = verdicts::operation::verdicts(job, table, codes);

@@ -6,15 +6,15 @@ ghost use Rattle.ropeclover.specs.TwoRuns.{TwoRuns};
 // Demand 2: a table finished from a job's start holds the smallest set, and accepts just the forms that derive a
 // string of the automaton.
 pub fn finished_tables()
-    ensures { λ r. ⌜ FinishedTables ⌝ }
+    ensures theorem { λ r. ⌜ FinishedTables ⌝ }
 {}
 
 // Demand 3: two runs of a list of calls, the records in different orders, are alike, and the counts add up.
 pub fn two_runs()
-    ensures { λ r. ⌜ TwoRuns ⌝ }
+    ensures theorem { λ r. ⌜ TwoRuns ⌝ }
 {}
 
 // The proved grammars on file: what is said of each holds by the definitions.
 pub fn filed_grammars()
-    ensures { λ r. ⌜ FiledGrammars ⌝ }
+    ensures theorem { λ r. ⌜ FiledGrammars ⌝ }
 {}

@@ -14,16 +14,16 @@ ghost use Rattle.ropeclover.specs.Exports.{verdictsNumbers, showNumbers}
 
 // The numbers of an answer.
 fn write2(answer: &mut [u64], a: u64, b: u64)
-    requires { ⌜ length (now answer) ≡ 2 ⌝ }
-    ensures { λ _. ⌜ now (answer .exit) ≡ a ∷ b ∷ [] ⌝ }
+    requires long { ⌜ length (now answer) ≡ 2 ⌝ }
+    ensures written { λ _. ⌜ now (answer .exit) ≡ a ∷ b ∷ [] ⌝ }
 {
     answer[0] = a;
     answer[1] = b;
 }
 
 fn write3(answer: &mut [u64], a: u64, b: u64, c: u64)
-    requires { ⌜ length (now answer) ≡ 3 ⌝ }
-    ensures { λ _. ⌜ now (answer .exit) ≡ a ∷ b ∷ c ∷ [] ⌝ }
+    requires long { ⌜ length (now answer) ≡ 3 ⌝ }
+    ensures written { λ _. ⌜ now (answer .exit) ≡ a ∷ b ∷ c ∷ [] ⌝ }
 {
     answer[0] = a;
     answer[1] = b;
@@ -31,8 +31,8 @@ fn write3(answer: &mut [u64], a: u64, b: u64, c: u64)
 }
 
 fn write4(answer: &mut [u64], a: u64, b: u64, c: u64, d: u64)
-    requires { ⌜ length (now answer) ≡ 4 ⌝ }
-    ensures { λ _. ⌜ now (answer .exit) ≡ a ∷ b ∷ c ∷ d ∷ [] ⌝ }
+    requires long { ⌜ length (now answer) ≡ 4 ⌝ }
+    ensures written { λ _. ⌜ now (answer .exit) ≡ a ∷ b ∷ c ∷ d ∷ [] ⌝ }
 {
     answer[0] = a;
     answer[1] = b;
@@ -41,8 +41,8 @@ fn write4(answer: &mut [u64], a: u64, b: u64, c: u64, d: u64)
 }
 
 fn write5(answer: &mut [u64], a: u64, b: u64, c: u64, d: u64, e: u64)
-    requires { ⌜ length (now answer) ≡ 5 ⌝ }
-    ensures { λ _. ⌜ now (answer .exit) ≡ a ∷ b ∷ c ∷ d ∷ e ∷ [] ⌝ }
+    requires long { ⌜ length (now answer) ≡ 5 ⌝ }
+    ensures written { λ _. ⌜ now (answer .exit) ≡ a ∷ b ∷ c ∷ d ∷ e ∷ [] ⌝ }
 {
     answer[0] = a;
     answer[1] = b;

@@ -1,9 +1,11 @@
 // The table and the reasons as start writes them.
+use crate::GIVEN_REASON;
 use crate::STATE_PLACES;
 use crate::STATE_REASONS;
 use crate::clear;
 use crate::table;
 use job::JobRecord;
+use job::RULES;
 ghost use mathlib.Core.Path.{_≡_};
 ghost use mathlib.Core.Bool.{true};
 ghost use mathlib.Core.List.{map};
@@ -13,14 +15,14 @@ ghost use Rattle.job.specs.Accepted.{Accepted};
 ghost use Rattle.job.specs.Format.{recordsOf};
 ghost use Rattle.job.specs.Job.{jobOf};
 ghost use Rattle.job.specs.Format.{noRecord};
-ghost use Rattle.saturation.specs.Table.{lentOf};
+ghost use Rattle.saturation.specs.Table.{tableSize, reasonsSize, lentOf};
 ghost use Rattle.saturation.specs.Start.{started};
 ghost use Rattle.job.specs.Inside.Keys.{KeyFits, ruleOfKey};
 ghost use Rattle.saturation.specs.Inside.StartParts.{TransitionFits, giving, givingAll, loopingRule, loopingAll};
 
 // The transition of a T record is pending, and given if its label is a variable.
 fn give(table: &mut [u8], reasons: &mut [u16], given: JobRecord)
-    requires long { ⌜ (65536 ≤ length (now table)) × (32768 ≤ length (now reasons)) ⌝ }
+    requires long { ⌜ (tableSize ≤ length (now table)) × (reasonsSize ≤ length (now reasons)) ⌝ }
     requires fits { ⌜ TransitionFits given ⌝ }
     ensures given { λ _. ⌜ lentOf (now (table .exit)) (now (reasons .exit))
         ≡ giving given (lentOf (now (table .entry)) (now (reasons .entry))) ⌝ }
@@ -35,12 +37,12 @@ fn give(table: &mut [u8], reasons: &mut [u16], given: JobRecord)
     if !grammar::is_variable(given.second) {
         return;
     }
-    reasons[q * STATE_REASONS + x * 32 + r] = 65535;
+    reasons[q * STATE_REASONS + x * 32 + r] = GIVEN_REASON;
 }
 
 // The transitions of all T records.
 fn give_all(job: &[u8], table: &mut [u8], reasons: &mut [u16])
-    requires long { ⌜ (65536 ≤ length (now table)) × (32768 ≤ length (now reasons)) ⌝ }
+    requires long { ⌜ (tableSize ≤ length (now table)) × (reasonsSize ≤ length (now reasons)) ⌝ }
     requires fit { ⌜ ((i : ℕ) → i < length (recordsOf (now job))
         → TransitionFits (getD (recordsOf (now job)) i noRecord)) ⌝ }
     ensures given { λ _. ⌜ lentOf (now (table .exit)) (now (reasons .exit))
@@ -56,7 +58,7 @@ fn give_all(job: &[u8], table: &mut [u8], reasons: &mut [u16])
 
 // The ε transitions of a rule, where it is an E rule, at every state, unless they are there already.
 fn loop_all(table: &mut [u8], reasons: &mut [u16], states: usize, key: u32, rank: u16)
-    requires long { ⌜ (65536 ≤ length (now table)) × (32768 ≤ length (now reasons)) ⌝ }
+    requires long { ⌜ (tableSize ≤ length (now table)) × (reasonsSize ≤ length (now reasons)) ⌝ }
     requires fits { ⌜ (states ≤ 32) × KeyFits key × (rank < 256) ⌝ }
     ensures looped { λ _. ⌜ lentOf (now (table .exit)) (now (reasons .exit))
         ≡ loopingRule states rank (ruleOfKey key) (lentOf (now (table .entry)) (now (reasons .entry))) ⌝ }
@@ -77,7 +79,7 @@ fn loop_all(table: &mut [u8], reasons: &mut [u16], states: usize, key: u32, rank
 
 // The ε transitions of the n rules whose sort keys are given in the order of their ranks.
 fn loop_rules(table: &mut [u8], reasons: &mut [u16], states: usize, keys: &[u32], n: usize)
-    requires long { ⌜ (65536 ≤ length (now table)) × (32768 ≤ length (now reasons)) × (states ≤ 32) ⌝ }
+    requires long { ⌜ (tableSize ≤ length (now table)) × (reasonsSize ≤ length (now reasons)) × (states ≤ 32) ⌝ }
     requires fit { ⌜ (n ≤ 256) × (n ≤ length (now keys)) × ((k : ℕ) → k < n → KeyFits (getD (now keys) k 0)) ⌝ }
     ensures looped { λ _. ⌜ lentOf (now (table .exit)) (now (reasons .exit))
         ≡ loopingAll states 0 (map ruleOfKey (take n (now (keys .entry))))
@@ -91,8 +93,8 @@ fn loop_rules(table: &mut [u8], reasons: &mut [u16], states: usize, keys: &[u32]
 }
 
 // The same for an array of keys.
-fn loops(table: &mut [u8], reasons: &mut [u16], states: usize, keys: &[u32; 256], n: usize)
-    requires long { ⌜ (65536 ≤ length (now table)) × (32768 ≤ length (now reasons)) × (states ≤ 32) ⌝ }
+fn loops(table: &mut [u8], reasons: &mut [u16], states: usize, keys: &[u32; RULES], n: usize)
+    requires long { ⌜ (tableSize ≤ length (now table)) × (reasonsSize ≤ length (now reasons)) × (states ≤ 32) ⌝ }
     requires fit { ⌜ (n ≤ 256) × ((k : ℕ) → k < n → KeyFits (getD (now keys) k 0)) ⌝ }
     ensures looped { λ _. ⌜ lentOf (now (table .exit)) (now (reasons .exit))
         ≡ loopingAll states 0 (map ruleOfKey (take n (now (keys .entry))))
@@ -104,13 +106,13 @@ fn loops(table: &mut [u8], reasons: &mut [u16], states: usize, keys: &[u32; 256]
 
 // Writes the table and the reasons of an accepted job, and returns its number of states.
 pub fn begin(job: &[u8], table: &mut [u8], reasons: &mut [u16]) -> usize
-    requires { ⌜ (65536 ≤ length (now table)) × (32768 ≤ length (now reasons)) × Accepted true (now job) ⌝ }
+    requires able { ⌜ (tableSize ≤ length (now table)) × (reasonsSize ≤ length (now reasons)) × Accepted true (now job) ⌝ }
     ensures states { λ s. ⌜ s ≡ jobOf (now (job .entry)) .states ⌝ }
     ensures written { λ s. ⌜ lentOf (now (table .exit)) (now (reasons .exit))
         ≡ started (jobOf (now (job .entry))) (lentOf (now (table .entry)) (now (reasons .entry))) ⌝ }
 {
     let states = job::lookup::state_count(job);
-    let mut keys = [0u32; 256];
+    let mut keys = [0u32; RULES];
     let n = job::rules::sorted_rules(job, &mut keys);
     job::clear::clear_table(table);
     clear::clear_reasons(reasons);

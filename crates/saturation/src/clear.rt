@@ -4,11 +4,12 @@ ghost use mathlib.Core.Path.{_≡_};
 ghost use Prim.Native.Nat.{_≤_};
 ghost use lib.ListN.{length};
 ghost use Rattle.job.specs.Clear.{cleared};
+ghost use Rattle.saturation.specs.Table.{reasonsSize};
 
 // Makes the first 32,768 reasons 0.
 pub fn clear_reasons(reasons: &mut [u16])
-    requires long { ⌜ 32768 ≤ length (now reasons) ⌝ }
-    ensures cleared { λ _. ⌜ now (reasons .exit) ≡ cleared 32768 (now (reasons .entry)) ⌝ }
+    requires long { ⌜ reasonsSize ≤ length (now reasons) ⌝ }
+    ensures cleared { λ _. ⌜ now (reasons .exit) ≡ cleared reasonsSize (now (reasons .entry)) ⌝ }
 {
     let mut i = 0;
     while i < REASON_NUMBERS {

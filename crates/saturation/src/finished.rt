@@ -4,12 +4,12 @@ use job::TABLE_BYTES;
 ghost use mathlib.Core.Path.{_≡_};
 ghost use Prim.Native.Nat.{_≤_};
 ghost use lib.ListN.{length};
-ghost use Rattle.saturation.specs.Table.{statuses};
+ghost use Rattle.saturation.specs.Table.{tableSize, statuses};
 ghost use Rattle.saturation.specs.Step.{isFinished};
 
 // Whether no pending byte is left.
 pub fn is_finished(table: &[u8]) -> bool
-    requires long { ⌜ 65536 ≤ length (now table) ⌝ }
+    requires long { ⌜ tableSize ≤ length (now table) ⌝ }
     ensures finished { λ r. ⌜ r ≡ isFinished (statuses (now (table .entry))) ⌝ }
 {
     let mut i = 0;

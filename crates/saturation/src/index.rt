@@ -1,5 +1,8 @@
 // For each symbol the ranks of the rules that have it in their bodies: those of symbol X stand at X * 256 in `users`,
 // `used[X]` of them, in ascending order.
+use crate::INDEX_RANKS;
+use job::RULES;
+use job::SYMBOLS;
 ghost use mathlib.Core.Path.{_≡_};
 ghost use mathlib.Core.List.{map};
 ghost use Prim.Native.Nat.{ℕ, _<_, _≤_};
@@ -15,7 +18,7 @@ fn append(users: &mut [u8], used: &mut [u16], symbol: usize, rank: u8)
         (now (users .exit)) (now (used .exit)) ⌝ }
 {
     let n = used[symbol] as usize;
-    users[symbol * 256 + n] = rank;
+    users[symbol * RULES + n] = rank;
     used[symbol] = used[symbol] + 1;
 }
 
@@ -52,7 +55,12 @@ fn index_all(keys: &[u32], n: usize, users: &mut [u8], used: &mut [u16])
 }
 
 // Fills the lists with the n rules whose sort keys are given in the order of their ranks.
-pub fn index_rules(keys: &[u32; 256], n: usize, users: &mut [u8; 16384], used: &mut [u16; 64])
+pub fn index_rules(
+    keys: &[u32; RULES],
+    n: usize,
+    users: &mut [u8; INDEX_RANKS],
+    used: &mut [u16; SYMBOLS],
+)
     requires fit { ⌜ (n ≤ 256) × ((k : ℕ) → k < n → KeyFits (getD (now keys) k 0)) ⌝ }
     requires empty { ⌜ ((X : ℕ) → X < 64 → getD (now used) X 0 ≡ 0) ⌝ }
     ensures indexed { λ r. ⌜ Indexed (map ruleOfKey (take n (now (keys .entry))))

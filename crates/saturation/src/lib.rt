@@ -16,6 +16,18 @@ pub const STATE_PLACES: usize = 2048;
 // How many reasons a state's transitions take: those of the 32 variables' rows.
 pub const STATE_REASONS: usize = 1024;
 
+// The rows of a table: one of 32 places for each state and symbol.
+pub const ROWS: usize = 2048;
+
+// The ranks that an index of the rules holds: of each symbol those of up to 256 rules.
+pub const INDEX_RANKS: usize = 16384;
+
+// The reason of a given transition.
+pub const GIVEN_REASON: u16 = 65535;
+
+// The steps that finish any table: one for each place.
+pub const MOST_STEPS: u64 = 65536;
+
 // A place past every table, by a power of two that no sum of a place's parts reaches.
 pub const NO_PLACE: usize = 131072;
 

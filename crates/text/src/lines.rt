@@ -7,8 +7,8 @@ ghost use Rattle.text.specs.Inside.Placed.{Placed, Room};
 
 // The line 'refused N at P'.
 pub fn refused_line(out: &mut [u8], at: usize, number: usize, place: usize) -> usize
-    requires { ⌜ Room at 53 ⌝ }
-    ensures { λ r. ⌜ Placed (refusedLine number place) 53 at (now (out .entry)) r (now (out .exit)) ⌝ }
+    requires room { ⌜ Room at 53 ⌝ }
+    ensures placed { λ r. ⌜ Placed (refusedLine number place) 53 at (now (out .entry)) r (now (out .exit)) ⌝ }
 {
     let next = pieces::put_number(out, at, b"refused ", number as u64);
     let next = pieces::put_number(out, next, b" at ", place as u64);
@@ -17,8 +17,8 @@ pub fn refused_line(out: &mut [u8], at: usize, number: usize, place: usize) -> u
 
 // A line 'WORD N'.
 pub fn number_line(out: &mut [u8], at: usize, word: &[u8], n: u64) -> usize
-    requires { ⌜ Room at (length (now word) + 22) ⌝ }
-    ensures { λ r. ⌜ Placed (numberLine (now (word .entry)) n) (length (now (word .entry)) + 22) at
+    requires room { ⌜ Room at (length (now word) + 22) ⌝ }
+    ensures placed { λ r. ⌜ Placed (numberLine (now (word .entry)) n) (length (now (word .entry)) + 22) at
         (now (out .entry)) r (now (out .exit)) ⌝ }
 {
     let next = pieces::put_word(out, at, word);
@@ -28,8 +28,8 @@ pub fn number_line(out: &mut [u8], at: usize, word: &[u8], n: u64) -> usize
 
 // A line 'WORD yes' or 'WORD no'.
 pub fn answer_line(out: &mut [u8], at: usize, word: &[u8], is: bool) -> usize
-    requires { ⌜ Room at (length (now word) + 5) ⌝ }
-    ensures { λ r. ⌜ Placed (answerLine (now (word .entry)) is) (length (now (word .entry)) + 5) at
+    requires room { ⌜ Room at (length (now word) + 5) ⌝ }
+    ensures placed { λ r. ⌜ Placed (answerLine (now (word .entry)) is) (length (now (word .entry)) + 5) at
         (now (out .entry)) r (now (out .exit)) ⌝ }
 {
     let next = pieces::put_word(out, at, word);
@@ -41,8 +41,8 @@ pub fn answer_line(out: &mut [u8], at: usize, word: &[u8], is: bool) -> usize
 
 // A line 'SYMBOL CODE'.
 pub fn code_line(out: &mut [u8], at: usize, symbol: u64, code: u8) -> usize
-    requires { ⌜ Room at 42 ⌝ }
-    ensures { λ r. ⌜ Placed (codeLine symbol code) 42 at (now (out .entry)) r (now (out .exit)) ⌝ }
+    requires room { ⌜ Room at 42 ⌝ }
+    ensures placed { λ r. ⌜ Placed (codeLine symbol code) 42 at (now (out .entry)) r (now (out .exit)) ⌝ }
 {
     let next = pieces::put_decimal(out, at, symbol);
     let next = pieces::put_byte(out, next, b" ", code);

@@ -9,7 +9,7 @@ ghost use Rattle.text.specs.Written.{writtenOf};
 
 // Refused: so many bytes are needed.
 fn too_short(needed: usize) -> Written
-    ensures { λ r. ⌜ r ≡ record { number = 13; place = needed; bytes = 0 } ⌝ }
+    ensures refused { λ r. ⌜ r ≡ record { number = 13; place = needed; bytes = 0 } ⌝ }
 {
     Written {
         number: 13,

@@ -10,16 +10,16 @@ ghost use Rattle.text.specs.Inside.Placed.{Placed, Room};
 
 // The byte of a digit.
 fn digit(d: u64) -> u8
-    requires { ⌜ d < 10 ⌝ }
-    ensures { λ r. ⌜ r ≡ digitOf d ⌝ }
+    requires below { ⌜ d < 10 ⌝ }
+    ensures digit { λ r. ⌜ r ≡ digitOf d ⌝ }
 {
     48 + d as u8
 }
 
 // A byte.
 pub fn put(out: &mut [u8], at: usize, byte: u8) -> usize
-    requires { ⌜ Room at 1 ⌝ }
-    ensures { λ r. ⌜ Placed (byte ∷ []) 1 at (now (out .entry)) r (now (out .exit)) ⌝ }
+    requires room { ⌜ Room at 1 ⌝ }
+    ensures placed { λ r. ⌜ Placed (byte ∷ []) 1 at (now (out .entry)) r (now (out .exit)) ⌝ }
 {
     if at < out.len() {
         out[at] = byte;
@@ -30,8 +30,8 @@ pub fn put(out: &mut [u8], at: usize, byte: u8) -> usize
 
 // A word.
 pub fn put_word(out: &mut [u8], at: usize, word: &[u8]) -> usize
-    requires { ⌜ Room at (length (now word)) ⌝ }
-    ensures { λ r. ⌜ Placed (now (word .entry)) (length (now (word .entry))) at
+    requires room { ⌜ Room at (length (now word)) ⌝ }
+    ensures placed { λ r. ⌜ Placed (now (word .entry)) (length (now (word .entry))) at
         (now (out .entry)) r (now (out .exit)) ⌝ }
 {
     let mut next = at;
@@ -45,8 +45,8 @@ pub fn put_word(out: &mut [u8], at: usize, word: &[u8]) -> usize
 
 // A number in decimal digits.
 pub fn put_decimal(out: &mut [u8], at: usize, n: u64) -> usize
-    requires { ⌜ Room at 20 ⌝ }
-    ensures { λ r. ⌜ Placed (decimal n) 20 at (now (out .entry)) r (now (out .exit)) ⌝ }
+    requires room { ⌜ Room at 20 ⌝ }
+    ensures placed { λ r. ⌜ Placed (decimal n) 20 at (now (out .entry)) r (now (out .exit)) ⌝ }
 {
     if n < 10 {
         return put(out, at, digit(n));
@@ -57,8 +57,8 @@ pub fn put_decimal(out: &mut [u8], at: usize, n: u64) -> usize
 
 // A word and a number.
 pub fn put_number(out: &mut [u8], at: usize, word: &[u8], n: u64) -> usize
-    requires { ⌜ Room at (length (now word) + 20) ⌝ }
-    ensures { λ r. ⌜ Placed (now (word .entry) ++ decimal n) (length (now (word .entry)) + 20) at
+    requires room { ⌜ Room at (length (now word) + 20) ⌝ }
+    ensures placed { λ r. ⌜ Placed (now (word .entry) ++ decimal n) (length (now (word .entry)) + 20) at
         (now (out .entry)) r (now (out .exit)) ⌝ }
 {
     let next = put_word(out, at, word);
@@ -67,8 +67,8 @@ pub fn put_number(out: &mut [u8], at: usize, word: &[u8], n: u64) -> usize
 
 // A word and a byte as a number.
 pub fn put_byte(out: &mut [u8], at: usize, word: &[u8], n: u8) -> usize
-    requires { ⌜ Room at (length (now word) + 20) ⌝ }
-    ensures { λ r. ⌜ Placed (now (word .entry) ++ decimal n) (length (now (word .entry)) + 20) at
+    requires room { ⌜ Room at (length (now word) + 20) ⌝ }
+    ensures placed { λ r. ⌜ Placed (now (word .entry) ++ decimal n) (length (now (word .entry)) + 20) at
         (now (out .entry)) r (now (out .exit)) ⌝ }
 {
     put_number(out, at, word, n as u64)

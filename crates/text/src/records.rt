@@ -8,8 +8,8 @@ ghost use Rattle.text.specs.Inside.Placed.{Placed, Room};
 
 // The transition, 'q X r'.
 fn put_transition(out: &mut [u8], at: usize, from: u8, symbol: u8, to: u8) -> usize
-    requires { ⌜ Room at 62 ⌝ }
-    ensures { λ r. ⌜ Placed (transitionText from symbol to) 62 at (now (out .entry)) r (now (out .exit)) ⌝ }
+    requires room { ⌜ Room at 62 ⌝ }
+    ensures placed { λ r. ⌜ Placed (transitionText from symbol to) 62 at (now (out .entry)) r (now (out .exit)) ⌝ }
 {
     let next = pieces::put_byte(out, at, b"", from);
     let next = pieces::put_byte(out, next, b" ", symbol);
@@ -18,8 +18,8 @@ fn put_transition(out: &mut [u8], at: usize, from: u8, symbol: u8, to: u8) -> us
 
 // Of a pair rule the second symbol and the middle state, and the line's end.
 fn put_second(out: &mut [u8], at: usize, kind: u8, second: u8, middle: u8) -> usize
-    requires { ⌜ Room at 46 ⌝ }
-    ensures { λ r. ⌜ Placed (secondText kind second middle) 46 at (now (out .entry)) r (now (out .exit)) ⌝ }
+    requires room { ⌜ Room at 46 ⌝ }
+    ensures placed { λ r. ⌜ Placed (secondText kind second middle) 46 at (now (out .entry)) r (now (out .exit)) ⌝ }
 {
     if kind != b'P' {
         return pieces::put(out, at, b'\n');
@@ -31,8 +31,8 @@ fn put_second(out: &mut [u8], at: usize, kind: u8, second: u8, middle: u8) -> us
 
 // The rule's body.
 fn put_body(out: &mut [u8], at: usize, kind: u8, first: u8, second: u8, middle: u8) -> usize
-    requires { ⌜ Room at 70 ⌝ }
-    ensures { λ r. ⌜ Placed (bodyText kind first second middle) 70 at (now (out .entry)) r (now (out .exit)) ⌝ }
+    requires room { ⌜ Room at 70 ⌝ }
+    ensures placed { λ r. ⌜ Placed (bodyText kind first second middle) 70 at (now (out .entry)) r (now (out .exit)) ⌝ }
 {
     if kind == b'E' {
         return pieces::put_word(out, at, b" -> empty\n");
@@ -51,8 +51,8 @@ fn put_reason(
     second: u8,
     middle: u8,
 ) -> usize
-    requires { ⌜ Room at 94 ⌝ }
-    ensures { λ r. ⌜ Placed (reasonText symbol kind first second middle) 94 at
+    requires room { ⌜ Room at 94 ⌝ }
+    ensures placed { λ r. ⌜ Placed (reasonText symbol kind first second middle) 94 at
         (now (out .entry)) r (now (out .exit)) ⌝ }
 {
     if kind == b'G' {
@@ -64,8 +64,8 @@ fn put_reason(
 
 // The line of record k.
 pub fn record_line(out: &mut [u8], at: usize, listing: &[u8], k: usize) -> usize
-    requires { ⌜ Room at 156 × (8 * k + 8 ≤ length (now listing)) ⌝ }
-    ensures { λ r. ⌜ Placed (recordLine (now (listing .entry)) k) 156 at
+    requires room { ⌜ Room at 156 × (8 * k + 8 ≤ length (now listing)) ⌝ }
+    ensures placed { λ r. ⌜ Placed (recordLine (now (listing .entry)) k) 156 at
         (now (out .entry)) r (now (out .exit)) ⌝ }
 {
     let i = 8 * k;

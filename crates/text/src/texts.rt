@@ -18,7 +18,7 @@ const MOST_RECORDS: usize = 65536;
 
 // The report's three lines of numbers.
 fn report_numbers(out: &mut [u8], states: u64, examined: u64, joins: u64) -> usize
-    ensures { λ r. ⌜ Placed (numberLine (ascii "states") states ++ numberLine (ascii "examined") examined
+    ensures placed { λ r. ⌜ Placed (numberLine (ascii "states") states ++ numberLine (ascii "examined") examined
         ++ numberLine (ascii "joins") joins) 85 0 (now (out .entry)) r (now (out .exit)) ⌝ }
 {
     let next = lines::number_line(out, 0, b"states", states);
@@ -28,8 +28,8 @@ fn report_numbers(out: &mut [u8], states: u64, examined: u64, joins: u64) -> usi
 
 // The report's three lines of answers.
 fn report_answers(out: &mut [u8], at: usize, start: bool, empty: bool, growing: bool) -> usize
-    requires { ⌜ at ≤ 85 ⌝ }
-    ensures { λ r. ⌜ Placed (answerLine (ascii "start") start ++ answerLine (ascii "empty") empty
+    requires early { ⌜ at ≤ 85 ⌝ }
+    ensures placed { λ r. ⌜ Placed (answerLine (ascii "start") start ++ answerLine (ascii "empty") empty
         ++ answerLine (ascii "growing") growing) 32 at (now (out .entry)) r (now (out .exit)) ⌝ }
 {
     let next = lines::answer_line(out, at, b"start", start);
@@ -39,7 +39,7 @@ fn report_answers(out: &mut [u8], at: usize, start: bool, empty: bool, growing: 
 
 // The report's text.
 pub fn report_lines(out: &mut [u8], report: Report) -> usize
-    ensures { λ r. ⌜ Placed (reportText report) 117 0 (now (out .entry)) r (now (out .exit)) ⌝ }
+    ensures placed { λ r. ⌜ Placed (reportText report) 117 0 (now (out .entry)) r (now (out .exit)) ⌝ }
 {
     if report.number != 0 {
         return lines::refused_line(out, 0, report.number, report.place);
@@ -50,7 +50,7 @@ pub fn report_lines(out: &mut [u8], report: Report) -> usize
 
 // The smaller of two numbers.
 fn least(a: usize, b: usize) -> usize
-    ensures { λ r. ⌜ r ≡ min a b ⌝ }
+    ensures least { λ r. ⌜ r ≡ min a b ⌝ }
 {
     if a < b {
         return a;
@@ -60,8 +60,8 @@ fn least(a: usize, b: usize) -> usize
 
 // The lines of the first n codes.
 fn code_lines(out: &mut [u8], codes: &[u8], n: usize) -> usize
-    requires { ⌜ (n ≤ 64) × (n ≤ length (now codes)) ⌝ }
-    ensures { λ r. ⌜ Placed (linesOf (λ X. codeLine X (getD (now (codes .entry)) X 0)) n) (42 * n) 0
+    requires within { ⌜ (n ≤ 64) × (n ≤ length (now codes)) ⌝ }
+    ensures placed { λ r. ⌜ Placed (linesOf (λ X. codeLine X (getD (now (codes .entry)) X 0)) n) (42 * n) 0
         (now (out .entry)) r (now (out .exit)) ⌝ }
 {
     let mut next = 0;
@@ -75,7 +75,7 @@ fn code_lines(out: &mut [u8], codes: &[u8], n: usize) -> usize
 
 // The text of the codes.
 pub fn codes_lines(out: &mut [u8], number: usize, place: usize, codes: &[u8]) -> usize
-    ensures { λ r. ⌜ Placed (codesText number place (now (codes .entry))) 2688 0
+    ensures placed { λ r. ⌜ Placed (codesText number place (now (codes .entry))) 2688 0
         (now (out .entry)) r (now (out .exit)) ⌝ }
 {
     if number != 0 {
@@ -86,8 +86,8 @@ pub fn codes_lines(out: &mut [u8], number: usize, place: usize, codes: &[u8]) ->
 
 // The lines of the first n records, after the two lines of the answer.
 fn record_lines(out: &mut [u8], at: usize, listing: &[u8], n: usize) -> usize
-    requires { ⌜ (at ≤ 42) × (n ≤ mostRecords) × (8 * n ≤ length (now listing)) ⌝ }
-    ensures { λ r. ⌜ Placed (linesOf (recordLine (now (listing .entry))) n) (156 * n) at
+    requires within { ⌜ (at ≤ 42) × (n ≤ mostRecords) × (8 * n ≤ length (now listing)) ⌝ }
+    ensures placed { λ r. ⌜ Placed (linesOf (recordLine (now (listing .entry))) n) (156 * n) at
         (now (out .entry)) r (now (out .exit)) ⌝ }
 {
     let mut next = at;
@@ -101,7 +101,7 @@ fn record_lines(out: &mut [u8], at: usize, listing: &[u8], n: usize) -> usize
 
 // How many records are shown.
 fn shown_records(records: usize, listing: &[u8]) -> usize
-    ensures { λ r. ⌜ r ≡ shownRecords records (now (listing .entry)) ⌝ }
+    ensures count { λ r. ⌜ r ≡ shownRecords records (now (listing .entry)) ⌝ }
 {
     least(least(records, MOST_RECORDS), listing.len() / 8)
 }
@@ -115,7 +115,7 @@ pub fn explain_lines(
     records: usize,
     listing: &[u8],
 ) -> usize
-    ensures { λ r. ⌜ Placed (explainText number place accepted records (now (listing .entry))) 10223658 0
+    ensures placed { λ r. ⌜ Placed (explainText number place accepted records (now (listing .entry))) 10223658 0
         (now (out .entry)) r (now (out .exit)) ⌝ }
 {
     if number != 0 {

@@ -5,15 +5,15 @@ ghost use Rattle.text.specs.Theorems.Lengths.{TextsFit};
 
 // Decimal digits spell their number, with no zero in front.
 pub fn decimal_spells()
-    ensures { λ _. ⌜ DecimalSpells ⌝ }
+    ensures theorem { λ _. ⌜ DecimalSpells ⌝ }
 {}
 
 // Some texts as they are printed.
 pub fn as_printed()
-    ensures { λ _. ⌜ AsPrinted ⌝ }
+    ensures theorem { λ _. ⌜ AsPrinted ⌝ }
 {}
 
 // How long a text can be.
 pub fn texts_fit()
-    ensures { λ _. ⌜ TextsFit ⌝ }
+    ensures theorem { λ _. ⌜ TextsFit ⌝ }
 {}

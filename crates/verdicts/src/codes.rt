@@ -1,8 +1,8 @@
 // The code of each symbol.
-use crate::SYMBOLS;
 use crate::flags;
 use job::RULES;
 use job::Rule;
+use job::SYMBOLS;
 ghost use mathlib.Core.Path.{_≡_};
 ghost use mathlib.Core.Bool.{Bool, cond, _||_};
 ghost use Prim.Native.Nat.{ℕ, _<_, _≤_};
@@ -16,7 +16,7 @@ ghost use Rattle.verdicts.specs.Inside.Flags.{Flags, Holds, Bits, ruleFr
 fn name_rule(flags: &mut [u8; SYMBOLS], rule: Rule)
     requires rule { ⌜ RuleFits rule ⌝ }
     requires flags { ⌜ Bits (now flags) ⌝ }
-    ensures { λ _. ⌜ ((set : ℕ → Bool) → Flags set (now (flags .entry)) →
+    ensures flags { λ _. ⌜ ((set : ℕ → Bool) → Flags set (now (flags .entry)) →
         Flags (λ X. set X || names X (ruleFrom rule)) (now (flags .exit))) ⌝ }
 {
     flags::raise(flags, rule.head, true);
@@ -27,7 +27,7 @@ fn name_rule(flags: &mut [u8; SYMBOLS], rule: Rule)
 pub fn named_symbols(keys: &[u32; RULES], n: usize, start: u8, flags: &mut [u8; SYMBOLS])
     requires rules { ⌜ Keys (now keys) n ⌝ }
     requires start { ⌜ start < 64 ⌝ }
-    ensures { λ _. ⌜ Flags (isNamed (rulesOfKeys (now (keys .entry)) n) start) (now (flags .exit)) ⌝ }
+    ensures flags { λ _. ⌜ Flags (isNamed (rulesOfKeys (now (keys .entry)) n) start) (now (flags .exit)) ⌝ }
 {
     flags::flag_one(flags, start, true);
     let mut k = 0;
@@ -39,7 +39,7 @@ pub fn named_symbols(keys: &[u32; RULES], n: usize, start: u8, flags: &mut [u8; 
 
 // The code of a symbol by its three flags.
 fn code_of(named: u8, productive: u8, useful: u8) -> u8
-    ensures { λ r. ⌜ r ≡ cond (eqb named 1) (cond (eqb productive 1) (cond (eqb useful 1) 1 3) 2) 0 ⌝ }
+    ensures code { λ r. ⌜ r ≡ cond (eqb named 1) (cond (eqb productive 1) (cond (eqb useful 1) 1 3) 2) 0 ⌝ }
 {
     if named != 1 {
         return 0;
@@ -60,8 +60,8 @@ pub fn write_codes(
     useful: &[u8; SYMBOLS],
     codes: &mut [u8],
 )
-    requires { ⌜ 64 ≤ length (now codes) ⌝ }
-    ensures { λ _. ⌜ ((n p u : ℕ → Bool) → Holds n (now (named .entry)) → Holds p (now (productive .entry)) →
+    requires long { ⌜ 64 ≤ length (now codes) ⌝ }
+    ensures codes { λ _. ⌜ ((n p u : ℕ → Bool) → Holds n (now (named .entry)) → Holds p (now (productive .entry)) →
         Holds u (now (useful .entry)) →
         now (codes .exit) ≡ written (λ X. cond (n X) (cond (p X) (cond (u X) 1 3) 2) 0) 0 64 (now (codes .entry))) ⌝ }
 {

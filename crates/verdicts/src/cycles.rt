@@ -1,10 +1,10 @@
 // Whether a pair rule stands on a cycle of the rules that count: those whose symbols are all flagged in `counts`.
 use crate::Direction;
-use crate::SYMBOLS;
 use crate::flags;
 use crate::passes;
 use job::RULES;
 use job::Rule;
+use job::SYMBOLS;
 ghost use mathlib.Core.Path.{_≡_};
 ghost use mathlib.Core.Bool.{Bool, _&&_, _||_};
 ghost use Prim.Native.Nat.{ℕ, _<_};
@@ -23,7 +23,7 @@ fn leading_symbols(
 )
     requires rules { ⌜ Keys (now keys) n ⌝ }
     requires symbol { ⌜ symbol < 64 ⌝ }
-    ensures { λ _. ⌜ ((counting : ℕ → Bool) → Holds counting (now (counts .entry)) →
+    ensures flags { λ _. ⌜ ((counting : ℕ → Bool) → Holds counting (now (counts .entry)) →
         Flags (leads (within counting (rulesOfKeys (now (keys .entry)) n)) symbol) (now (leading .exit))) ⌝ }
 {
     flags::flag_one(leading, symbol, true);
@@ -32,8 +32,8 @@ fn leading_symbols(
 
 // Whether a rule is a pair rule of a head, with a flagged symbol in its body.
 fn pair_to(rule: Rule, symbol: u8, leading: &[u8; SYMBOLS]) -> bool
-    requires { ⌜ RuleFits rule ⌝ }
-    ensures { λ r. ⌜ r ≡ pairTo symbol (flagged (now (leading .entry))) (ruleFrom rule) ⌝ }
+    requires rule { ⌜ RuleFits rule ⌝ }
+    ensures says { λ r. ⌜ r ≡ pairTo symbol (flagged (now (leading .entry))) (ruleFrom rule) ⌝ }
 {
     if rule.kind == b'E' {
         return false;
@@ -55,8 +55,8 @@ fn found_pair(
     symbol: u8,
     leading: &[u8; SYMBOLS],
 ) -> bool
-    requires { ⌜ RuleFits rule ⌝ }
-    ensures { λ r. ⌜ r ≡ (found || (ruleIn (flagged (now (counts .entry))) (ruleFrom rule)
+    requires rule { ⌜ RuleFits rule ⌝ }
+    ensures says { λ r. ⌜ r ≡ (found || (ruleIn (flagged (now (counts .entry))) (ruleFrom rule)
         && pairTo symbol (flagged (now (leading .entry))) (ruleFrom rule))) ⌝ }
 {
     if found {
@@ -76,8 +76,8 @@ fn any_pair_to(
     symbol: u8,
     leading: &[u8; SYMBOLS],
 ) -> bool
-    requires { ⌜ Keys (now keys) n ⌝ }
-    ensures { λ r. ⌜ ((counting set : ℕ → Bool) → Holds counting (now (counts .entry)) →
+    requires rules { ⌜ Keys (now keys) n ⌝ }
+    ensures says { λ r. ⌜ ((counting set : ℕ → Bool) → Holds counting (now (counts .entry)) →
         Holds set (now (leading .entry)) →
         r ≡ anyRule (pairTo symbol set) (within counting (rulesOfKeys (now (keys .entry)) n))) ⌝ }
 {
@@ -95,7 +95,7 @@ fn any_pair_to(
 fn cycle_at(keys: &[u32; RULES], n: usize, counts: &[u8; SYMBOLS], symbol: u8) -> bool
     requires rules { ⌜ Keys (now keys) n ⌝ }
     requires symbol { ⌜ symbol < 64 ⌝ }
-    ensures { λ r. ⌜ ((counting : ℕ → Bool) → Holds counting (now (counts .entry)) →
+    ensures says { λ r. ⌜ ((counting : ℕ → Bool) → Holds counting (now (counts .entry)) →
         r ≡ cycleAt symbol (within counting (rulesOfKeys (now (keys .entry)) n))) ⌝ }
 {
     let mut leading = [0u8; SYMBOLS];
@@ -105,8 +105,8 @@ fn cycle_at(keys: &[u32; RULES], n: usize, counts: &[u8; SYMBOLS], symbol: u8) -
 
 // Whether some pair rule stands on a cycle. A head is a variable.
 pub fn any_cycle(keys: &[u32; RULES], n: usize, counts: &[u8; SYMBOLS]) -> bool
-    requires { ⌜ Keys (now keys) n ⌝ }
-    ensures { λ r. ⌜ ((counting : ℕ → Bool) → Holds counting (now (counts .entry)) →
+    requires rules { ⌜ Keys (now keys) n ⌝ }
+    ensures says { λ r. ⌜ ((counting : ℕ → Bool) → Holds counting (now (counts .entry)) →
         r ≡ cyclic (within counting (rulesOfKeys (now (keys .entry)) n))) ⌝ }
 {
     let mut a: u8 = 0;

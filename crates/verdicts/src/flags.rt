@@ -1,6 +1,6 @@
 // Flags of 0 or 1 by symbol, which hold a set of symbols.
-use crate::SYMBOLS;
 use job::Rule;
+use job::SYMBOLS;
 ghost use mathlib.Core.Path.{_≡_};
 ghost use mathlib.Core.Bool.{Bool, _&&_, _||_};
 ghost use Prim.Native.Nat.{ℕ, _<_};
@@ -14,7 +14,7 @@ ghost use Rattle.verdicts.specs.Inside.Flags.{Flags, flagged, Bits, Rais
 pub fn raise(flags: &mut [u8; SYMBOLS], symbol: u8, test: bool) -> usize
     requires symbol { ⌜ symbol < 64 ⌝ }
     requires flags { ⌜ Bits (now flags) ⌝ }
-    ensures { λ r. ⌜ ((set : ℕ → Bool) → Flags set (now (flags .entry)) →
+    ensures raised { λ r. ⌜ ((set : ℕ → Bool) → Flags set (now (flags .entry)) →
         Raised set (λ X. set X || (test && eqb symbol X)) (now (flags .exit)) r) ⌝ }
 {
     if !test {
@@ -31,7 +31,7 @@ pub fn raise(flags: &mut [u8; SYMBOLS], symbol: u8, test: bool) -> usize
 pub fn raise_body(flags: &mut [u8; SYMBOLS], rule: Rule, test: bool) -> usize
     requires rule { ⌜ RuleFits rule ⌝ }
     requires flags { ⌜ Bits (now flags) ⌝ }
-    ensures { λ r. ⌜ ((set : ℕ → Bool) → Flags set (now (flags .entry)) →
+    ensures raised { λ r. ⌜ ((set : ℕ → Bool) → Flags set (now (flags .entry)) →
         Raised set (λ X. set X || (test && standsIn X (body (ruleFrom rule)))) (now (flags .exit)) r) ⌝ }
 {
     if rule.kind == b'E' {
@@ -47,8 +47,8 @@ pub fn raise_body(flags: &mut [u8; SYMBOLS], rule: Rule, test: bool) -> usize
 
 // The flag of one symbol is 1 if a test says so, all others are 0.
 pub fn flag_one(flags: &mut [u8; SYMBOLS], symbol: u8, test: bool)
-    requires { ⌜ symbol < 64 ⌝ }
-    ensures { λ _. ⌜ Flags (λ X. eqb symbol X && test) (now (flags .exit)) ⌝ }
+    requires symbol { ⌜ symbol < 64 ⌝ }
+    ensures flags { λ _. ⌜ Flags (λ X. eqb symbol X && test) (now (flags .exit)) ⌝ }
 {
     // stored whole first: a proof knows the length of an array behind a reference only after that
     let none = [0u8; SYMBOLS];
@@ -58,7 +58,7 @@ pub fn flag_one(flags: &mut [u8; SYMBOLS], symbol: u8, test: bool)
 
 // The flags of the terminals are 1, those of the variables 0.
 pub fn flag_terminals(flags: &mut [u8; SYMBOLS])
-    ensures { λ _. ⌜ Flags isTerminal (now (flags .exit)) ⌝ }
+    ensures flags { λ _. ⌜ Flags isTerminal (now (flags .exit)) ⌝ }
 {
     let none = [0u8; SYMBOLS];
     *flags = none;
@@ -71,8 +71,8 @@ pub fn flag_terminals(flags: &mut [u8; SYMBOLS])
 
 // Whether each symbol of a rule's body is flagged.
 pub fn body_all(rule: Rule, flags: &[u8; SYMBOLS]) -> bool
-    requires { ⌜ RuleFits rule ⌝ }
-    ensures { λ r. ⌜ r ≡ allIn (flagged (now (flags .entry))) (body (ruleFrom rule)) ⌝ }
+    requires rule { ⌜ RuleFits rule ⌝ }
+    ensures says { λ r. ⌜ r ≡ allIn (flagged (now (flags .entry))) (body (ruleFrom rule)) ⌝ }
 {
     if rule.kind == b'E' {
         return true;
@@ -88,8 +88,8 @@ pub fn body_all(rule: Rule, flags: &[u8; SYMBOLS]) -> bool
 
 // Whether some symbol of a rule's body is flagged.
 pub fn body_any(rule: Rule, flags: &[u8; SYMBOLS]) -> bool
-    requires { ⌜ RuleFits rule ⌝ }
-    ensures { λ r. ⌜ r ≡ anyIn (flagged (now (flags .entry))) (body (ruleFrom rule)) ⌝ }
+    requires rule { ⌜ RuleFits rule ⌝ }
+    ensures says { λ r. ⌜ r ≡ anyIn (flagged (now (flags .entry))) (body (ruleFrom rule)) ⌝ }
 {
     if rule.kind == b'E' {
         return false;
@@ -105,8 +105,8 @@ pub fn body_any(rule: Rule, flags: &[u8; SYMBOLS]) -> bool
 
 // Whether all symbols of a rule are flagged.
 pub fn rule_all(rule: Rule, flags: &[u8; SYMBOLS]) -> bool
-    requires { ⌜ RuleFits rule ⌝ }
-    ensures { λ r. ⌜ r ≡ ruleIn (flagged (now (flags .entry))) (ruleFrom rule) ⌝ }
+    requires rule { ⌜ RuleFits rule ⌝ }
+    ensures says { λ r. ⌜ r ≡ ruleIn (flagged (now (flags .entry))) (ruleFrom rule) ⌝ }
 {
     if flags[rule.head as usize] != 1 {
         return false;

@@ -7,9 +7,6 @@ pub mod passes;
 pub mod theorems;
 pub mod usefulness;
 
-// How many symbols there are: 32 variables and 32 terminals.
-pub const SYMBOLS: usize = 64;
-
 // What the verdicts answer: a refusal's number and place, 0 and 0 where nothing is refused, and two verdicts.
 pub struct Verdicts {
     pub number: usize,

@@ -1,5 +1,4 @@
 // The verdicts, for every input.
-use crate::SYMBOLS;
 use crate::Verdicts;
 use crate::codes;
 use crate::cycles;
@@ -7,6 +6,7 @@ use crate::usefulness;
 use job::CODE_BYTES;
 use job::Checked;
 use job::RULES;
+use job::SYMBOLS;
 use job::TABLE_BYTES;
 ghost use mathlib.Core.Path.{_≡_};
 ghost use mathlib.Core.Bool.{false};
@@ -20,7 +20,7 @@ ghost use Rattle.verdicts.specs.Inside.Flags.{Keys, rulesOfKeys};
 
 // The checks of the verdicts: short buffers, then the job's, no I needed.
 fn verdicts_check(job: &[u8], table: &[u8], codes: &[u8]) -> Checked
-    ensures { λ r. ⌜ r ≡ verdictsCheck (now (job .entry)) (now (table .entry)) (now (codes .entry)) ⌝ }
+    ensures checked { λ r. ⌜ r ≡ verdictsCheck (now (job .entry)) (now (table .entry)) (now (codes .entry)) ⌝ }
 {
     if table.len() < TABLE_BYTES {
         return Checked {
@@ -73,7 +73,7 @@ fn give(job: &[u8], table: &mut [u8], codes: &mut [u8]) -> Verdicts
     requires accepted { ⌜ Accepted false (now job) ⌝ }
     requires table { ⌜ 65536 ≤ length (now table) ⌝ }
     requires codes { ⌜ 64 ≤ length (now codes) ⌝ }
-    ensures { λ r. ⌜ verdictsLeave r (now (table .exit)) (now (codes .exit))
+    ensures left { λ r. ⌜ verdictsLeave r (now (table .exit)) (now (codes .exit))
         ≡ verdictsOn (jobOf (now (job .entry))) (now (table .entry)) (now (codes .entry)) ⌝ }
 {
     let mut keys = [0u32; RULES];
@@ -85,7 +85,7 @@ fn give(job: &[u8], table: &mut [u8], codes: &mut [u8]) -> Verdicts
 
 // Codes of the 64 symbols, and whether the language is empty and whether it grows. The table is scratch, left 0.
 pub fn verdicts(job: &[u8], table: &mut [u8], codes: &mut [u8]) -> Verdicts
-    ensures { λ r. ⌜ verdictsLeave r (now (table .exit)) (now (codes .exit))
+    ensures left { λ r. ⌜ verdictsLeave r (now (table .exit)) (now (codes .exit))
         ≡ verdictsOf (now (job .entry)) (now (table .entry)) (now (codes .entry)) ⌝ }
 {
     let c = verdicts_check(job, table, codes);

@@ -2,10 +2,10 @@
 // The set is held by flags, the rules are given by their sort keys, and only those whose symbols are all flagged in
 // `counts` count.
 use crate::Direction;
-use crate::SYMBOLS;
 use crate::flags;
 use job::RULES;
 use job::Rule;
+use job::SYMBOLS;
 ghost use mathlib.Core.Path.{_≡_};
 ghost use mathlib.Core.Bool.{Bool, _&&_, _||_};
 ghost use mathlib.Core.List.{[], _∷_};
@@ -17,8 +17,8 @@ ghost use Rattle.verdicts.specs.Inside.Passes.{byKeys};
 
 // Whether a rule adds to the set.
 fn is_ready(rule: Rule, direction: Direction, flags: &[u8; SYMBOLS]) -> bool
-    requires { ⌜ RuleFits rule ⌝ }
-    ensures { λ r. ⌜ r ≡ ready direction (flagged (now (flags .entry))) (ruleFrom rule) ⌝ }
+    requires rule { ⌜ RuleFits rule ⌝ }
+    ensures says { λ r. ⌜ r ≡ ready direction (flagged (now (flags .entry))) (ruleFrom rule) ⌝ }
 {
     match direction {
         Direction::Up => flags::body_all(rule, flags),
@@ -31,7 +31,7 @@ fn is_ready(rule: Rule, direction: Direction, flags: &[u8; SYMBOLS]) -> bool
 fn raise_added(flags: &mut [u8; SYMBOLS], rule: Rule, direction: Direction, test: bool) -> usize
     requires rule { ⌜ RuleFits rule ⌝ }
     requires flags { ⌜ Bits (now flags) ⌝ }
-    ensures { λ r. ⌜ ((set : ℕ → Bool) → Flags set (now (flags .entry)) →
+    ensures raised { λ r. ⌜ ((set : ℕ → Bool) → Flags set (now (flags .entry)) →
         Raised set (λ X. set X || (test && standsIn X (added direction (ruleFrom rule)))) (now (flags .exit)) r) ⌝ }
 {
     match direction {
@@ -45,7 +45,7 @@ fn raise_added(flags: &mut [u8; SYMBOLS], rule: Rule, direction: Direction, test
 fn add(flags: &mut [u8; SYMBOLS], rule: Rule, direction: Direction, counts: &[u8; SYMBOLS]) -> usize
     requires rule { ⌜ RuleFits rule ⌝ }
     requires flags { ⌜ Bits (now flags) ⌝ }
-    ensures { λ r. ⌜ ((counting set : ℕ → Bool) → Holds counting (now (counts .entry)) →
+    ensures raised { λ r. ⌜ ((counting set : ℕ → Bool) → Holds counting (now (counts .entry)) →
         Flags set (now (flags .entry)) →
         Raised set (round direction (within counting (ruleFrom rule ∷ [])) set) (now (flags .exit)) r) ⌝ }
 {
@@ -66,7 +66,7 @@ fn pass(
 ) -> usize
     requires rules { ⌜ Keys (now keys) n ⌝ }
     requires flags { ⌜ Bits (now flags) ⌝ }
-    ensures { λ r. ⌜ ((counting set : ℕ → Bool) → Holds counting (now (counts .entry)) →
+    ensures raised { λ r. ⌜ ((counting set : ℕ → Bool) → Holds counting (now (counts .entry)) →
         Flags set (now (flags .entry)) →
         Raised set (byKeys direction counting (now (keys .entry)) n set) (now (flags .exit)) r) ⌝ }
 {
@@ -90,7 +90,7 @@ pub fn grow(
 )
     requires rules { ⌜ Keys (now keys) n ⌝ }
     requires flags { ⌜ Bits (now flags) ⌝ }
-    ensures { λ _. ⌜ ((counting set : ℕ → Bool) → Holds counting (now (counts .entry)) →
+    ensures grown { λ _. ⌜ ((counting set : ℕ → Bool) → Holds counting (now (counts .entry)) →
         Flags set (now (flags .entry)) →
         Flags (grown direction (within counting (rulesOfKeys (now (keys .entry)) n)) set) (now (flags .exit))) ⌝ }
 {

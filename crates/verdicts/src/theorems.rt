@@ -5,30 +5,30 @@ ghost use Rattle.verdicts.specs.Theorems.Meant.{CodeIsMeant, GrowingIsMe
 
 // The computed productive symbols are those that derive a terminal string.
 pub fn productive_is_meant()
-    ensures { λ _. ⌜ ProductiveIsMeant ⌝ }
+    ensures theorem { λ _. ⌜ ProductiveIsMeant ⌝ }
 {}
 
 // The computed useful symbols are the papers'.
 pub fn useful_is_meant()
-    ensures { λ _. ⌜ UsefulIsMeant ⌝ }
+    ensures theorem { λ _. ⌜ UsefulIsMeant ⌝ }
 {}
 
 // The computed useful rules are those whose symbols are all useful.
 pub fn useful_rules_are_meant()
-    ensures { λ _. ⌜ UsefulRulesAreMeant ⌝ }
+    ensures theorem { λ _. ⌜ UsefulRulesAreMeant ⌝ }
 {}
 
 // The computed code of a symbol is the one that the papers' sets give it.
 pub fn code_is_meant()
-    ensures { λ _. ⌜ CodeIsMeant ⌝ }
+    ensures theorem { λ _. ⌜ CodeIsMeant ⌝ }
 {}
 
 // A pair rule on a cycle of the useful rules is what growing means.
 pub fn growing_is_meant()
-    ensures { λ _. ⌜ GrowingIsMeant ⌝ }
+    ensures theorem { λ _. ⌜ GrowingIsMeant ⌝ }
 {}
 
 // Codes, empty and growing of a call that is not refused are the papers', both ways.
 pub fn verdicts_are_meant()
-    ensures { λ _. ⌜ VerdictsAreMeant ⌝ }
+    ensures theorem { λ _. ⌜ VerdictsAreMeant ⌝ }
 {}
