@@ -1,18 +1,13 @@
 -- What ask answers: the refusal of its checks, or whether the form can finish from the initial state, as its flag
 -- says. Assumes nothing.
-use mathlib.Core.Path.{_≡_, refl, sym, _∙_, ap}
-use mathlib.Core.Bool.{Bool, true, false}
-use mathlib.Core.List.{List}
-use Prim.Native.Nat.{ℕ, _<_, _+_, _*_}
-use native.Mathlib.Omega.{arith}
-use borrow.Author.Tests.{eq-eqb, ne-eqb}
-use lib.Dec.{eqb}
-use lib.ListN.{getD, drop}
+use Rattle.grammar.proofs.Basics.{_≡_, refl, _∙_, sym, ap, true, false, Bool, List, ℕ, _<_, _+_, _*_, arith, eqb, getD}
+use Rattle.grammar.proofs.Basics.{eq-eqb, ne-eqb}
 use Rattle.grammar.specs.Counting.{one-if}
 use Rattle.job.specs.declared.Checked.{Checked}
 use Rattle.job.specs.Accepted.{Accepted}
-use Rattle.job.specs.Job.{jobOf}
-use Rattle.job.proofs.AcceptedFacts.{in-range, initial-below}
+use Rattle.job.specs.Format.{byteI, recordsOf}
+use Rattle.job.specs.Job.{fieldOf, jobOf}
+use Rattle.job.proofs.AcceptedFacts.{in-range, initial-below, job-initial}
 use Rattle.saturation.specs.Table.{doneAt}
 use Rattle.forms.specs.declared.Asked.{Asked}
 use Rattle.forms.specs.Operations.{acceptsOn, askCheck, askOf}
@@ -25,38 +20,43 @@ pub ask-refused : (job table form : List ℕ) (c : Checked) → c ≡ askCheck j
 unfolding askOf
 ask-refused job table form c e refusal = rw (← e, ne-eqb (c .number) 0 refusal)
 
-pub ask-answered :
-    (job table form : List ℕ) (b : Bool) → askCheck job table form .number ≡ 0 →
+pub ask-answered : (job table form : List ℕ) (b : Bool) → askCheck job table form .number ≡ 0 →
     b ≡ acceptsOn (jobOf job) table form →
     _≡_ {A = Asked} (record { number = 0; place = 0; accepted = b }) (askOf job table form)
 unfolding askOf
-ask-answered job table form b none e = rw (eq-eqb (askCheck job table form .number) 0 none, e)
+ask-answered job table form b none e = rw (eq-eqb _ 0 none, e)
 
 -- the initial state is below 32
 pub initial-state : {job : List ℕ} → Accepted true job → jobOf job .initial < 32
 initial-state ok = omega (arith, initial-below ok refl, in-range ok .states)
 
--- the flags by the job's final states
+-- the flags of the job's final states
 abbrev pub FinalFlags : List ℕ → List ℕ → Type 0
 FinalFlags job finals = (q : ℕ) → q < 32 → getD finals q 0 ≡ one-if (jobOf job .final q)
 
-pub job-flags :
-    (job table form finish finals : List ℕ) → FinalFlags job finals →
-    FinishFlags (flagged finals) table form finish → FinishFlags (jobOf job .final) table form finish
-job-flags job table form finish finals final flags i q l below =
-    flags i q l below
-    ∙ finish-cong (flagged finals) (jobOf job .final)
-    (λ s k. ap (λ v. eqb v 1) (final s k) ∙ flag-is-one (jobOf job .final s)) (doneAt table) (drop i form) q below
+-- the flags of a form are filled, and a state is the initial one
+pub record Filled (job t form finish : List ℕ) (q : ℕ) : Type 0 where
+  pub ok : Accepted true job
+  pub flags : FinishFlags (jobOf job .final) t form finish
+  pub initial : q ≡ jobOf job .initial
+
+pub filled : {job : List ℕ} (t form finish finals : List ℕ) {q : ℕ} → Accepted true job → FinalFlags job finals →
+    FinishFlags (flagged finals) t form finish → q ≡ fieldOf byteI (recordsOf job) → Filled job t form finish q
+filled {job} t form finish finals ok final flags at =
+    record {
+      ok = ok;
+      flags = λ i q l below. flags i q l below
+          ∙ finish-cong (flagged finals) _ (λ s k. ap (λ v. eqb v 1) (final s k) ∙ flag-is-one _) (doneAt t) _ q below;
+      initial = at ∙ sym (job-initial job);
+    }
 
 -- the flag of the whole form at the initial state
-pub initial-flag :
-    (job table form finish : List ℕ) (q : ℕ) → Accepted true job →
-    FinishFlags (jobOf job .final) table form finish → q ≡ jobOf job .initial →
-    flagged finish q ≡ acceptsOn (jobOf job) table form
-initial-flag job table form finish q ok flags at =
-    let first : jobOf job .initial ≡ 0 * 32 + jobOf job .initial = omega arith in
-    ap (flagged finish) (at ∙ first) ∙ flags 0 (jobOf job .initial) (omega arith) (initial-state ok)
+pub initial-flag : {job t form finish : List ℕ} {q : ℕ} → Filled job t form finish q →
+    flagged finish q ≡ acceptsOn (jobOf job) t form
+initial-flag {job} {finish = finish} {q} f =
+    let at : q ≡ 0 * 32 + jobOf job .initial = omega (arith, f .initial) in
+    ap (flagged finish) at ∙ f .flags 0 _ (omega arith) (initial-state (f .ok))
 
 -- of an answer that equals the checks
-pub none-refused : (c d : Checked) → c ≡ d → c .number ≡ 0 → d .number ≡ 0
-none-refused c d e none = ap (λ k. k .number) (sym e) ∙ none
+pub none-refused : {c d : Checked} → c ≡ d → c .number ≡ 0 → d .number ≡ 0
+none-refused e none = rw (← e) none

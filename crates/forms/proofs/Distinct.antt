@@ -1,17 +1,10 @@
 -- Lists of different numbers: they are no longer than the set that they are of, and an element tells its index.
 -- Assumes nothing.
-use mathlib.Core.Path.{_≡_, refl, sym}
-use mathlib.Core.Logic.{⊎-elim}
-use mathlib.Core.Bool.{Bool, true, false, _||_, false≢true}
-use mathlib.Core.List.{List, [], _∷_, _++_, List·Memᴰ, List·Memᴰ·head, List·Memᴰ·tail, List·Memᴰ·cases-cons}
-use mathlib.Core.List.{List·Memᴰ·not-nil, List·Memᴰ·append-cases, List·Memᴰ·eq-of-singleton}
-use Prim.Native.Nat.{ℕ, suc, _≤_, _<_}
-use native.Mathlib.Omega.{arith}
-use lib.Dec.{eqb}
-use lib.ListN.{length, getD}
-use borrow.Author.Tests.{eqb-true, eq-eqb}
+use Rattle.grammar.proofs.Basics.{_≡_, refl, sym, ⊎-elim, true, false, Bool, _||_, false≢true, List, _∷_, []}
+use Rattle.grammar.proofs.Basics.{List·Memᴰ, _++_, List·Memᴰ·head, List·Memᴰ·tail, List·Memᴰ·not-nil}
+use Rattle.grammar.proofs.Basics.{List·Memᴰ·cases-cons, List·Memᴰ·eq-of-singleton, List·Memᴰ·append-cases, ℕ, _<_, _≤_}
+use Rattle.grammar.proofs.Basics.{suc, arith, eqb, length, getD, eq-eqb, eqb-true, or-split, or-left, or-right}
 use Rattle.grammar.specs.Counting.{count, NoRepeat}
-use Rattle.grammar.proofs.Basics.{or-split, or-left, or-right}
 use Rattle.grammar.proofs.Counting.{count-bound, count-monotone}
 use Rattle.grammar.proofs.NoRepeat.{count-list}
 
@@ -26,21 +19,18 @@ holds-sound [] i e = absurd (false≢true e)
 holds-sound (x ∷ xs) i e =
     ⊎-elim
     (λ h. List·Memᴰ·head (eqb-true i x h))
-    (λ h. List·Memᴰ·tail (holds-sound xs i h))
-    (or-split (eqb i x) (holds xs i) e)
+    (λ h. List·Memᴰ·tail (holds-sound xs i h)) (or-split _ _ e)
 
 holds-complete : (l : List ℕ) (i : ℕ) → List·Memᴰ i l → holds l i ≡ true
 unfolding holds
 holds-complete [] i m = absurd (List·Memᴰ·not-nil m)
 holds-complete (x ∷ xs) i m =
     ⊎-elim
-    (λ e. or-left (eqb i x) (holds xs i) (eq-eqb i x e))
-    (λ m'. or-right (eqb i x) (holds xs i) (holds-complete xs i m'))
-    (List·Memᴰ·cases-cons m)
+    (λ e. or-left _ _ (eq-eqb i x e))
+    (λ m'. or-right (eqb i x) _ (holds-complete xs i m')) (List·Memᴰ·cases-cons m)
 
 -- different members of a set below n are no more than it has there
-pub distinct-counted :
-    (t : ℕ → Bool) (n : ℕ) (l : List ℕ) → NoRepeat l → ((i : ℕ) → List·Memᴰ i l → i < n) →
+pub distinct-counted : (t : ℕ → Bool) (n : ℕ) (l : List ℕ) → NoRepeat l → ((i : ℕ) → List·Memᴰ i l → i < n) →
     ((i : ℕ) → List·Memᴰ i l → t i ≡ true) → length l ≤ count t n
 distinct-counted t n l apart below members =
     omega (
@@ -58,11 +48,9 @@ pub no-repeat-behind : (l : List ℕ) (p : ℕ) → NoRepeat l → (List·Memᴰ
 unfolding NoRepeat
 no-repeat-behind [] p apart other = (λ m. List·Memᴰ·not-nil m, tt)
 no-repeat-behind (x ∷ xs) p apart other = (
-  λ m.
-      ⊎-elim
+  λ m. ⊎-elim
       (λ i. apart .0 i)
-      (λ i. other (List·Memᴰ·head (sym (List·Memᴰ·eq-of-singleton i))))
-      (List·Memᴰ·append-cases xs m),
+      (λ i. other (List·Memᴰ·head (sym (List·Memᴰ·eq-of-singleton i)))) (List·Memᴰ·append-cases xs m),
   no-repeat-behind xs p (apart .1) (λ m. other (List·Memᴰ·tail m)),
 )
 

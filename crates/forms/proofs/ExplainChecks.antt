@@ -1,9 +1,6 @@
 -- The checks of explain: the ways through them, and what they make sure of where they refuse nothing. By the tests in
 -- turn. Assumes nothing.
-use mathlib.Core.Path.{_≡_, refl, sym, _∙_, ap}
-use mathlib.Core.List.{List}
-use Prim.Native.Nat.{ℕ}
-use borrow.Author.Tests.{eq-eqb, ne-eqb}
+use Rattle.grammar.proofs.Basics.{_≡_, refl, _∙_, sym, ap, List, ℕ, eq-eqb, ne-eqb}
 use Rattle.job.specs.declared.Checked.{Checked}
 use Rattle.job.proofs.JobChecks.{both-pass}
 use Rattle.saturation.specs.Table.{Lent}
@@ -27,5 +24,5 @@ module _ (job : List ℕ) (m : Lent) (form : List ℕ) where
   pub explain-passed : (c : Checked) → c ≡ explainCheck job m form → c .number ≡ 0 → Passed job m × FormFits form
   unfolding explainCheck
   explain-passed c checked e =
-      let (a, f) = both-pass (machineCheck job m) (formCheck form) (ap (λ k. k .number) (sym checked) ∙ e) in
-      (machine-passed job m (machineCheck job m) refl a, fits-of-check form f)
+      let (a, f) = both-pass _ (formCheck form) (ap (λ k. k .number) (sym checked) ∙ e) in
+      (machine-passed job m _ refl a, fits-of-check form f)

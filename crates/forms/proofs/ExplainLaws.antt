@@ -1,62 +1,39 @@
 -- Explain on a finished table works on the first part of what is lent alone and keeps the rest; and where the reasons
 -- fit, it leaves done what is done. Assumes nothing.
-use mathlib.Core.Path.{_≡_, refl, sym, _∙_, ap}
-use mathlib.Core.Logic.{⊎-elim}
-use mathlib.Core.Bool.{Bool, true, false}
-use mathlib.Core.List.{List, _++_, List·Memᴰ}
-use Prim.Native.Nat.{ℕ, _*_, _≤_, _<_}
-use lib.Dec.{ltb}
-use lib.ListN.{length, getD, take, drop}
+use Rattle.grammar.proofs.Basics.{_≡_, refl, _∙_, sym, ap, true, false, Bool, List, ℕ, _<_, _≤_, ltb, length, getD}
+use Rattle.grammar.proofs.Basics.{take, cases}
 use Rattle.grammar.specs.Rule.{Rule}
-use Rattle.grammar.proofs.Basics.{cases}
 use Rattle.job.specs.Job.{Job}
 use Rattle.job.specs.Theorems.InRange.{InRange}
 use Rattle.saturation.specs.Table.{Lent, lentOf, KeepsRest, tableSize, reasonsSize, isDone, statuses, doneAt}
 use Rattle.saturation.specs.Theorems.Reasons.{ReasonsFit}
 use Rattle.saturation.proofs.Steps.FirstPart.{first}
 use Rattle.forms.specs.Acceptance.{SymbolsFit, route}
-use Rattle.forms.specs.Listing.{Listed, listAll, depthBound}
-use Rattle.forms.specs.Grounded.{DonePlace, Grounded}
+use Rattle.forms.specs.Listing.{Listed, listAll, recordsAt}
 use Rattle.forms.specs.Operations.{acceptsOn, ExplainOutcome, explainListed, listedFor, explainFinished}
-use Rattle.forms.specs.Inside.ListingParts.{fresh}
 use Rattle.forms.proofs.Routes.{route-done}
-use Rattle.forms.proofs.RunLaws.{run-marks}
-use Rattle.forms.proofs.WalkInvariant.{bound-enough}
-use Rattle.forms.proofs.ListAll.{sequence-runs}
+use Rattle.forms.proofs.Runs.{visits-run}
+use Rattle.forms.proofs.RunLaws.{done-same}
 use Rattle.forms.proofs.Grounding.{grounded-by-reasons}
 use Rattle.forms.proofs.ListedPlaces.{Within, listed-length, listed-rest, listed-within}
 use Rattle.forms.proofs.FirstListing.{firstListed, can-finish-first, route-in-first, route-within}
 use Rattle.forms.proofs.FirstListing.{records-first, list-all-first}
-use Rattle.forms.proofs.ExplainCases.{leavesBy, listed-leaves, explain-accepted, explain-unaccepted}
-use Rattle.forms.proofs.ExplainCases.{explain-cases, leaves-lent}
+use Rattle.forms.proofs.ExplainCases.{leavesBy, explain-cases}
 
--- the outcome, with what is lent cut down to its first part
+-- the outcome, with what is lent cut down to parts, and to its first part
+abbrev cutOutcome : (List ℕ → List ℕ) → (List ℕ → List ℕ) → ExplainOutcome → ExplainOutcome
+cutOutcome T R o =
+    record { answer = o .answer; lent = lentOf (T (o .lent .table)) (R (o .lent .reasons)); listing = o .listing }
+
 abbrev pub firstOutcome : ExplainOutcome → ExplainOutcome
-firstOutcome o = record { answer = o .answer; lent = first (o .lent); listing = o .listing }
+firstOutcome = cutOutcome (take tableSize) (take reasonsSize)
 
-leaves-first :
-    (short : Bool) (ρs : List Rule) (reasons : List ℕ) (l : Listed) (out : List ℕ) → Within (l .places) →
-    firstOutcome (leavesBy short ρs reasons l out) ≡ leavesBy short ρs (take reasonsSize reasons) (firstListed l) out
-leaves-first true ρs reasons l out within = refl
-leaves-first false ρs reasons l out within =
-    λ i.
-    record {
-      answer = record { number = 0; place = 0; accepted = true; records = length (l .places) };
-      lent = first (lentOf (l .table) reasons);
-      listing = records-first ρs reasons (l .places) within i ++ drop (8 * length (l .places)) out;
-    }
-
--- marks on done places leave done what is done, and no more
-listed-keeps-done :
-    (ρs : List Rule) (reasons t ps : List ℕ) → Grounded ρs reasons t → tableSize ≤ length t →
-    ((p : ℕ) → List·Memᴰ p ps → DonePlace t p) → (k : ℕ) →
-    isDone (getD (listAll ρs reasons t ps .table) k 0) ≡ isDone (getD t k 0)
-unfolding listAll
-listed-keeps-done ρs reasons t ps g long done k =
-    ⊎-elim
-    (λ e. ap isDone e)
-    (λ m. ap isDone (m .0) ∙ sym (m .1 .is-done))
-    (run-marks (sequence-runs ρs reasons t g depthBound (bound-enough g) long ps done (fresh t) long) long k)
+leaves-cut : (T R : List ℕ → List ℕ) (short : Bool) (ρs : List Rule) (reasons : List ℕ) (l : Listed) (out : List ℕ) →
+    recordsAt ρs reasons (l .places) ≡ recordsAt ρs (R reasons) (l .places) →
+    cutOutcome T R (leavesBy short ρs reasons l out)
+    ≡ leavesBy short ρs (R reasons) (record { table = T (l .table); places = l .places }) out
+leaves-cut T R true ρs reasons l out e = refl
+leaves-cut T R false ρs reasons l out e = rw e
 
 -- a form of symbols, on a job in range
 module _ (J : Job) (range : InRange J) (initial : J .initial < 32) (form : List ℕ) (fit : SymbolsFit form) where
@@ -72,63 +49,51 @@ module _ (J : Job) (range : InRange J) (initial : J .initial < 32) (form : List 
     listed-first : firstListed (listedFor J m form) ≡ listedFor J (first m) form
     unfolding listedFor
     listed-first =
-        list-all-first (J .rules) (range .rules) (m .reasons) (m .table) (on (m .table)) accepted-route
-        ∙ ap (listAll (J .rules) (take reasonsSize (m .reasons)) (take tableSize (m .table)))
-        (route-in-first (J .final) (m .table) form (J .initial) initial fit e)
+        list-all-first (J .rules) (range .rules) (m .reasons) (m .table) _ accepted-route
+        ∙ ap (listAll (J .rules) _ _) (route-in-first (J .final) (m .table) form (J .initial) initial fit e)
 
     for-within : Within (listedFor J m form .places)
     unfolding listedFor
-    for-within = listed-within (J .rules) (range .rules) (m .reasons) (m .table) (on (m .table)) accepted-route
+    for-within = listed-within (J .rules) (range .rules) (m .reasons) (m .table) _ accepted-route
 
     for-keeps : KeepsRest m (lentOf (listedFor J m form .table) (m .reasons))
     unfolding listedFor
     for-keeps =
         record {
-          long-table = listed-length (J .rules) (range .rules) (m .reasons) (m .table) (on (m .table)) accepted-route;
+          long-table = listed-length (J .rules) (range .rules) (m .reasons) (m .table) _ accepted-route;
           long-reasons = refl;
-          rest-table = listed-rest (J .rules) (range .rules) (m .reasons) (m .table) (on (m .table)) accepted-route;
+          rest-table = listed-rest (J .rules) (range .rules) (m .reasons) (m .table) _ accepted-route;
           rest-reasons = refl;
         }
 
-    for-done :
-        ReasonsFit J (statuses (m .table)) (m .reasons) → tableSize ≤ length (m .table) → (k : ℕ) →
+    for-done : ReasonsFit J (statuses (m .table)) (m .reasons) → tableSize ≤ length (m .table) → (k : ℕ) →
         isDone (getD (listedFor J m form .table) k 0) ≡ isDone (getD (m .table) k 0)
-    unfolding listedFor
+    unfolding listedFor listAll
     for-done reasons long =
-        listed-keeps-done (J .rules) (m .reasons) (m .table) (on (m .table)) (grounded-by-reasons J range m reasons)
-        long
-        (route-done (J .final) (m .table) form (J .initial) initial fit e)
+        done-same
+        (visits-run (grounded-by-reasons J range m reasons) _
+        (route-done (J .final) (m .table) form (J .initial) initial fit e) _ long .0)
 
-  pub explain-first :
-      (m : Lent) (out : List ℕ) →
+  pub explain-first : (m : Lent) (out : List ℕ) →
       firstOutcome (explainFinished J m form out) ≡ explainFinished J (first m) form out
+  unfolding explainFinished explainListed
   explain-first m out =
-      let same = can-finish-first (J .final) (m .table) form (J .initial) initial fit in
       let l : Listed = listedFor J m form in
+      let same = can-finish-first (J .final) (m .table) form (J .initial) initial fit in
       cases (acceptsOn J (m .table) form)
-      (λ e.
-      ap firstOutcome (explain-accepted J m form out e ∙ listed-leaves (J .rules) (m .reasons) l out)
-      ∙ leaves-first (ltb (length out) (8 * length (l .places))) (J .rules) (m .reasons) l out (for-within m e)
-      ∙ sym (listed-leaves (J .rules) (take reasonsSize (m .reasons)) (firstListed l) out)
-      ∙ ap (λ k. explainListed (J .rules) (take reasonsSize (m .reasons)) k out) (listed-first m e)
-      ∙ sym (explain-accepted J (first m) form out (sym same ∙ e)))
-      (λ e.
-      ap firstOutcome (explain-unaccepted J m form out e)
-      ∙ sym (explain-unaccepted J (first m) form out (sym same ∙ e)))
+      (λ e. rw (e, sym same ∙ e, ← listed-first m e)
+      (leaves-cut (take tableSize) (take reasonsSize) (ltb (length out) _) (J .rules) (m .reasons) l out
+      (records-first (J .rules) (m .reasons) (l .places) (for-within m e))))
+      (λ e. rw (e, sym same ∙ e) refl)
 
   pub explain-keeps : (m : Lent) (out : List ℕ) → KeepsRest m (explainFinished J m form out .lent)
   explain-keeps m out =
-      explain-cases J m form out (λ o. KeepsRest m (o .lent))
-      (λ e short. leaves-lent (J .rules) (m .reasons) (listedFor J m form) (KeepsRest m) short out (for-keeps m e))
-      (record { long-table = refl; long-reasons = refl; rest-table = refl; rest-reasons = refl })
+      explain-cases J m form out (λ o. KeepsRest m (o .lent)) (for-keeps m) (for-keeps m)
+      (λ e. record { long-table = refl; long-reasons = refl; rest-table = refl; rest-reasons = refl })
 
   pub explain-done :
       (m : Lent) (out : List ℕ) → ReasonsFit J (statuses (m .table)) (m .reasons) → tableSize ≤ length (m .table) →
       (k : ℕ) → isDone (getD (explainFinished J m form out .lent .table) k 0) ≡ isDone (getD (m .table) k 0)
-  explain-done m out reasons long =
-      explain-cases J m form out (λ o. (k : ℕ) → isDone (getD (o .lent .table) k 0) ≡ isDone (getD (m .table) k 0))
-      (λ e short.
-      leaves-lent (J .rules) (m .reasons) (listedFor J m form)
-      (λ n. (k : ℕ) → isDone (getD (n .table) k 0) ≡ isDone (getD (m .table) k 0)) short out
-      (for-done m e reasons long))
-      (λ k. refl)
+  explain-done m out reasons long k =
+      explain-cases J m form out (λ o. isDone (getD (o .lent .table) k 0) ≡ isDone (getD (m .table) k 0))
+      (λ e. for-done m e reasons long k) (λ e. for-done m e reasons long k) (λ e. refl)

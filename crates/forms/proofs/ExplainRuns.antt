@@ -1,11 +1,6 @@
 -- Explain from start to end: a refusal leaves all as it was; else the job is started and run, and the form is
 -- explained on the table that this leaves. Assumes nothing.
-use mathlib.Core.Path.{_≡_, sym, _∙_, ap}
-use mathlib.Core.Bool.{true, false}
-use mathlib.Core.List.{List}
-use Prim.Native.Nat.{ℕ, _≤_}
-use lib.ListN.{length}
-use borrow.Author.Tests.{eq-eqb, ne-eqb}
+use Rattle.grammar.proofs.Basics.{_≡_, _∙_, sym, ap, true, false, List, ℕ, _≤_, length, eq-eqb, ne-eqb}
 use Rattle.job.specs.declared.Checked.{Checked}
 use Rattle.job.specs.Accepted.{Accepted}
 use Rattle.job.specs.Job.{jobOf}
@@ -24,8 +19,7 @@ abbrev pub MayRun : List ℕ → Lent → Type 0
 MayRun job m = (tableSize ≤ length (m .table)) × (reasonsSize ≤ length (m .reasons)) × Accepted true job
 
 module _ (job : List ℕ) (m : Lent) (form : List ℕ) {c : Checked} (checked : c ≡ explainCheck job m form) where
-  pub refuses :
-      (out : List ℕ) → (c .number ≡ 0 → ⊥) →
+  pub refuses : (out : List ℕ) → (c .number ≡ 0 → ⊥) →
       explainLeaves (record { number = c .number; place = c .place; accepted = false; records = 0 }) m out
       ≡ explainOf job m form out
   unfolding explainOf
@@ -48,16 +42,14 @@ module _ (job : List ℕ) (m : Lent) (form : List ℕ) {c : Checked} (checked : 
       -- and run
       module _ {m₂ : Lent} (ran : m₂ ≡ steps (jobOf job .rules) 65536 m₁) where
         finished : m₂ ≡ steps (jobOf job .rules) 65536 (started (jobOf job) m)
-        finished = ran ∙ ap (steps (jobOf job .rules) 65536) begun
+        finished = ran ∙ ap (steps _ 65536) begun
 
         pub may-explain : Explainable job m₂ × FormFits form
         may-explain =
             let (p, fits) = explain-passed job m form c checked none in
             (rw finished (run-explainable job m p 65536), fits)
 
-        pub explains :
-            (out : List ℕ) {after : ExplainOutcome} → after ≡ explainFinished (jobOf job) m₂ form out →
+        pub explains : (out : List ℕ) {after : ExplainOutcome} → after ≡ explainFinished (jobOf job) m₂ form out →
             after ≡ explainOf job m form out
         unfolding explainOf
-        explains out e =
-            rw (eq-eqb (explainCheck job m form .number) 0 (ap (λ k. k .number) (sym checked) ∙ none), ← finished) e
+        explains out e = rw (eq-eqb _ 0 (ap (λ k. k .number) (sym checked) ∙ none), ← finished) e

@@ -1,18 +1,10 @@
 -- The checks of a form by what holds of its symbols: it is refused at the first byte over 63, and fits where there is
 -- none. Assumes nothing.
-use mathlib.Core.Path.{_≡_, refl, sym, _∙_, ap}
-use mathlib.Core.Bool.{true}
-use mathlib.Core.List.{List, [], _∷_}
-use Prim.Native.Nat.{ℕ, zero, suc, _+_, _≤_, _<_, suc-le-suc}
-use native.Mathlib.Nat.{add-zero, add-suc, suc-add}
-use native.Mathlib.Omega.{arith}
-use borrow.Author.Tests.{lt-ltb, le-ltb, ltb-false, eq-eqb, ne-eqb}
-use lib.Dec.{ltb}
-use lib.ListN.{length, getD}
-use Rattle.grammar.proofs.Basics.{cases}
+use Rattle.grammar.proofs.Basics.{_≡_, refl, _∙_, ap, true, List, _∷_, [], ℕ, _<_, _≤_, _+_, suc, zero, suc-le-suc}
+use Rattle.grammar.proofs.Basics.{add-zero, arith, ltb, length, getD, eq-eqb, ne-eqb, ltb-false, lt-ltb, le-ltb, cases}
 use Rattle.job.specs.declared.Checked.{Checked}
 use Rattle.job.specs.Accepted.{Accepted}
-use Rattle.job.specs.Check.{checkOf, fullLimits, refused, accepted, orElse, shortTable}
+use Rattle.job.specs.Check.{checkOf, orElse, fullLimits, refused, accepted, shortTable}
 use Rattle.job.proofs.Accepted.{number-accepted}
 use Rattle.job.proofs.JobChecks.{both-pass, not-short}
 use Rattle.saturation.specs.Table.{tableSize}
@@ -24,19 +16,14 @@ use Rattle.forms.specs.Inside.AcceptanceParts.{FormFits}
 abbrev pub FitBefore : List ℕ → ℕ → Type 0
 FitBefore w i = (k : ℕ) → k < i → getD w k 0 ≤ 63
 
-fit-tail : (x : ℕ) (w : List ℕ) (i : ℕ) → FitBefore (x ∷ w) (suc i) → FitBefore w i
-fit-tail x w i fits k h = fits (suc k) (suc-le-suc h)
-
-over-at :
-    (w : List ℕ) (base i : ℕ) → FitBefore w i → i < length w → 63 < getD w i 0 → firstOver base w
+over-at : (w : List ℕ) (base i : ℕ) → FitBefore w i → i < length w → 63 < getD w i 0 → firstOver base w
     ≡ refused 11 (base + i)
 unfolding firstOver
 over-at [] base i fits below over = absurd (omega arith)
 over-at (x ∷ w) base zero fits below over = rw (lt-ltb 63 x over, add-zero)
 over-at (x ∷ w) base (suc i) fits below over =
     rw (le-ltb 63 x (fits zero (omega arith)))
-    (over-at w (suc base) i (fit-tail x w i fits) (omega arith) over
-    ∙ ap (refused 11) (suc-add base i ∙ sym (add-suc base i)))
+    (over-at w (suc base) i (λ k h. fits (suc k) (suc-le-suc h)) (omega arith) over ∙ ap (refused 11) (omega arith))
 
 none-over : (w : List ℕ) (base : ℕ) → SymbolsFit w → firstOver base w ≡ accepted
 unfolding firstOver
@@ -52,7 +39,7 @@ fit-of-none : (w : List ℕ) (base : ℕ) → firstOver base w .number ≡ 0 →
 unfolding firstOver
 fit-of-none [] base none = λ i below. absurd (omega arith)
 fit-of-none (x ∷ w) base none =
-    cases (ltb 63 x) (λ over. absurd (let z : _≡_ {A = ℕ} 11 0 = rw over at none in omega arith))
+    cases (ltb 63 x) (λ over. absurd (omega (arith, rw over at none)))
     (λ fits. fits-first x w (ltb-false 63 x fits) (fit-of-none w (suc base) (rw fits at none)))
 
 pub form-too-long : (w : List ℕ) → 64 < length w → formCheck w ≡ refused 12 (length w)
@@ -73,7 +60,7 @@ form-fits w short fits = rw (le-ltb 64 (length w) short) (none-over w 0 fits)
 pub fits-of-check : (w : List ℕ) → formCheck w .number ≡ 0 → FormFits w
 unfolding formCheck
 fits-of-check w none =
-    cases (ltb 64 (length w)) (λ long. absurd (let z : _≡_ {A = ℕ} 12 0 = rw long at none in omega arith))
+    cases (ltb 64 (length w)) (λ long. absurd (omega (arith, rw long at none)))
     (λ short. record { short = ltb-false 64 (length w) short; symbols = fit-of-none w 0 (rw short at none) })
 
 -- its refusals are 11 and 12
@@ -85,28 +72,27 @@ first-over-number k (X ∷ form) =
 
 pub form-number : (form : List ℕ) → formCheck form .number ≤ 12
 unfolding formCheck
-form-number form =
-    cases (ltb 64 (length form)) (λ t. rw t (omega arith)) (λ t. rw t (first-over-number 0 form))
+form-number form = cases (ltb 64 (length form)) (λ t. rw t (omega arith)) (λ t. rw t (first-over-number 0 form))
 
 -- the ways through the checks of ask: a short table, a refused job, and the form's own
 pub ask-short : (job table form : List ℕ) → length table < tableSize → askCheck job table form ≡ refused 10 1
 unfolding askCheck
 ask-short job table form h = rw (lt-ltb (length table) tableSize h)
 
-pub ask-job :
-    (job table form : List ℕ) (c : Checked) → tableSize ≤ length table → c ≡ checkOf fullLimits true job →
-    (c .number ≡ 0 → ⊥) →
-    askCheck job table form ≡ c
-unfolding askCheck
-ask-job job table form c long e refusal =
-    rw (le-ltb (length table) tableSize long, ← e, ne-eqb (c .number) 0 refusal)
+module _ (job table form : List ℕ) (c : Checked) (long : tableSize ≤ length table)
+    (e : c ≡ checkOf fullLimits true job) where
+  -- on a long table the job's check alone comes before the form's
+  job-first : orElse (orElse (shortTable table) (checkOf fullLimits true job)) (formCheck form)
+      ≡ orElse c (formCheck form)
+  job-first = rw (le-ltb (length table) tableSize long, e)
 
-pub ask-form :
-    (job table form : List ℕ) (c : Checked) → tableSize ≤ length table → c ≡ checkOf fullLimits true job →
-    c .number ≡ 0 →
-    askCheck job table form ≡ formCheck form
-unfolding askCheck
-ask-form job table form c long e none = rw (le-ltb (length table) tableSize long, ← e, eq-eqb (c .number) 0 none)
+  pub ask-job : (c .number ≡ 0 → ⊥) → askCheck job table form ≡ c
+  unfolding askCheck
+  ask-job refusal = job-first ∙ rw (ne-eqb (c .number) 0 refusal)
+
+  pub ask-form : c .number ≡ 0 → askCheck job table form ≡ formCheck form
+  unfolding askCheck
+  ask-form none = job-first ∙ rw (eq-eqb (c .number) 0 none)
 
 -- what ask has made sure of where it refuses nothing
 pub record AskPassed (job table form : List ℕ) : Type 0 where
@@ -117,10 +103,10 @@ pub record AskPassed (job table form : List ℕ) : Type 0 where
 pub ask-passed : (job table form : List ℕ) → askCheck job table form .number ≡ 0 → AskPassed job table form
 unfolding askCheck
 ask-passed job table form e =
-    let (c, f) = both-pass (orElse (shortTable table) (checkOf fullLimits true job)) (formCheck form) e in
-    let (t, j) = both-pass (shortTable table) (checkOf fullLimits true job) c in
+    let (c, f) = both-pass _ (formCheck form) e in
+    let (t, j) = both-pass (shortTable table) _ c in
     record {
-      long = ltb-false (length table) tableSize (not-short (ltb (length table) tableSize) 1 t);
+      long = ltb-false (length table) tableSize (not-short _ 1 t);
       job-accepted = number-accepted true job j;
       form-fits = fits-of-check form f;
     }

@@ -1,207 +1,140 @@
 -- Reasons that fit, as saturation leaves them, lead down: the premises that a reason decodes to are those that it was
 -- made of. Assumes nothing.
-use mathlib.Core.Path.{_≡_, refl, sym, _∙_, ap, subst}
-use mathlib.Core.Logic.{inl, inr, ⊎-elim}
-use mathlib.Core.Bool.{true, false, cond}
-use mathlib.Core.List.{List, List·Memᴰ, List·Memᴰ·cases-cons}
-use mathlib.Core.List.{List·Memᴰ·not-nil, List·Memᴰ·eq-of-singleton}
-use Prim.Native.Nat.{ℕ, _-_, _/_, _%_, _≤_, _<_}
-use native.Mathlib.Omega.{arith}
-use lib.Dec.{leb}
-use lib.ListN.{getD}
-use borrow.Author.Tests.{eq-eqb, ne-eqb, leb-true, leb-false}
-use Rattle.grammar.specs.Rule.{Rule, head, empty, unit, pair}
+use Rattle.grammar.proofs.Basics.{_≡_, refl, _∙_, ap, ⊎-elim, inl, inr, true, List·Memᴰ, List·Memᴰ·not-nil}
+use Rattle.grammar.proofs.Basics.{List·Memᴰ·cases-cons, List·Memᴰ·eq-of-singleton, ℕ, _<_, _≤_, _-_, _/_, _%_, arith}
+use Rattle.grammar.proofs.Basics.{leb, getD, eq-eqb, ne-eqb, leb-true, leb-false, cases}
+use Rattle.grammar.specs.Rule.{Rule, head, empty}
 use Rattle.grammar.specs.Closure.{Closure}
-use Rattle.grammar.proofs.Basics.{cases}
 use Rattle.job.specs.Job.{Job}
-use Rattle.saturation.specs.Table.{Lent, tableSize, place, fromState, symbolAt, toState, reasonPlace, isDone}
-use Rattle.saturation.specs.Table.{byteStatus, statuses, doneIn, doneAt, givenReason, reasonOf}
+use Rattle.saturation.specs.Table.{Lent, place, fromState, symbolAt, toState, isDone, byteStatus, statuses, doneIn}
+use Rattle.saturation.specs.Table.{doneAt, givenReason, reasonOf}
 use Rattle.job.proofs.NoRepeat.{member-at}
 use Rattle.job.specs.Theorems.InRange.{RuleInRange, InRange}
 use Rattle.saturation.specs.Smallest.{Smallest, DecidesSmallest}
 use Rattle.saturation.specs.Theorems.Reasons.{RuleAt, Premise, Reason, ReasonsFit}
 use Rattle.saturation.proofs.Tables.Statuses.{done-not-absent}
-use Rattle.saturation.proofs.Tables.Places.{from-state-below, to-state-below, place-of-parts, place-below}
+use Rattle.saturation.proofs.Tables.Places.{place-of-parts, place-below}
 use Rattle.forms.specs.Listing.{reasonAt, reasonRule, rulePremises, premises}
 use Rattle.forms.specs.Grounded.{DonePlace, ReasonFits, Grounded}
 use Rattle.forms.specs.Theorems.ListingTheorems.{TrueReasons}
 use Rattle.forms.proofs.RunLaws.{done-bound}
 
--- a rule of the job is in range
-rule-range : (J : Job) → InRange J → (rank : ℕ) (ρ : Rule) → RuleAt (J .rules) rank ρ → RuleInRange ρ
-rule-range J range rank ρ rule =
-    subst RuleInRange (rule .1)
-    (range .rules (getD (J .rules) rank (empty 0)) (member-at (empty 0) (J .rules) rank (rule .0)))
+-- each transition of a terminal in the smallest set is given, as no rule adds one
+given-in-smallest : {J : Job} → InRange J → {q X r : ℕ} → 32 ≤ X → Smallest J q X r → J .given q X r ≡ true
+given-in-smallest range h (Closure.given g) = g
+given-in-smallest range h (Closure.by-empty {A = A} rule l) = absurd (omega (arith, range .rules (empty A) rule))
+given-in-smallest range h (Closure.by-unit {A = A} {X = X} rule c) = absurd (omega (arith, range .rules _ rule))
+given-in-smallest range h (Closure.by-pair {A = A} {X = X} {Y = Y} rule c k) =
+    absurd (omega (arith, range .rules _ rule))
 
--- what is to be shown of a done place: a reason that fits and is true, with premises that are done and lower
-record Leads (J : Job) (reasons t : List ℕ) (height : ℕ → ℕ) (p : ℕ) : Type 0 where
-  fits : ReasonFits (J .rules) (reasonAt reasons p)
-  head-is : (reasonAt reasons p ≡ givenReason → ⊥) → head (reasonRule (J .rules) (reasonAt reasons p)) ≡ symbolAt p
-  down : (x : ℕ) → List·Memᴰ x (premises (J .rules) reasons p) → DonePlace t x × (height x < height p)
+-- a done place of a table whose reasons fit
+module _ (J : Job) (range : InRange J) (m : Lent) (fit : ReasonsFit J (statuses (m .table)) (m .reasons)) (p : ℕ)
+    (d : DonePlace (m .table) p) where
+  abbrev from : ℕ
+  from = fromState p
 
-module _ (J : Job) (range : InRange J) (reasons t : List ℕ) (height : ℕ → ℕ) (p : ℕ) (within : p < tableSize) where
+  abbrev symbol : ℕ
+  symbol = symbolAt p
+
+  abbrev to : ℕ
+  to = toState p
+
+  abbrev why : ℕ
+  why = reasonAt (m .reasons) p
+
+  abbrev Below : ℕ → Type 0
+  Below x = DonePlace (m .table) x × (fit .height x < fit .height p)
+
+  -- what is to be shown of it: a reason that fits and is true, with premises that are done and lower
+  record Leads : Type 0 where
+    fits : ReasonFits (J .rules) why
+    is-given : DecidesSmallest J (doneAt (m .table)) → why ≡ givenReason → J .given from symbol to ≡ true
+    head-is : (why ≡ givenReason → ⊥) → head (reasonRule (J .rules) why) ≡ symbol
+    down : (x : ℕ) → List·Memᴰ x (premises (J .rules) (m .reasons) p) → Below x
+
   -- a given transition has no premises
-  given-leads : reasonAt reasons p ≡ givenReason → Leads J reasons t height p
+  given-leads : why ≡ givenReason → (DecidesSmallest J (doneAt (m .table)) → J .given from symbol to ≡ true) → Leads
   unfolding premises
-  given-leads e =
+  given-leads e given =
       record {
         fits = inl e;
+        is-given = λ smallest same. given smallest;
         head-is = λ other. absurd (other e);
-        down = λ x m. absurd (List·Memᴰ·not-nil (rw (eq-eqb (reasonAt reasons p) givenReason e) at m));
+        down = λ x i. absurd (List·Memᴰ·not-nil (rw (eq-eqb why givenReason e) at i));
       }
 
   -- by a rule
-  module _
-      (rank middle : ℕ) (ρ : Rule) (rule : RuleAt (J .rules) rank ρ) (small : middle < 32)
-      (e : reasonAt reasons p ≡ reasonOf rank middle)
-    where
-      at-rank : reasonRule (J .rules) (reasonAt reasons p) ≡ ρ
-      at-rank =
-          let same : (reasonAt reasons p - 1) / 32 ≡ rank = omega arith in
-          ap (λ k. getD (J .rules) k (empty 0)) same ∙ rule .1
+  rule-leads : (rank middle : ℕ) (ρ : Rule) → why ≡ reasonOf rank middle → middle < 32 → RuleAt (J .rules) rank ρ →
+      head ρ ≡ symbol → (RuleInRange ρ → (x : ℕ) → List·Memᴰ x (rulePremises from middle to ρ) → Below x) → Leads
+  unfolding premises
+  rule-leads rank middle ρ e small rule h down =
+      let other : why ≡ givenReason → ⊥ = λ g. omega (arith, rule .0, range .rule-count) in
+      let same : (why - 1) / 32 ≡ rank = omega arith in
+      let at-middle : (why - 1) % 32 ≡ middle = omega arith in
+      let at-rank : reasonRule (J .rules) why ≡ ρ = rw same (rule .1) in
+      let in-range : RuleInRange ρ = rw (rule .1) at
+      (range .rules _ (member-at (empty 0) (J .rules) rank (rule .0))) in
+      record {
+        fits = inr (omega arith, omega (arith, rule .0));
+        is-given = λ smallest g. absurd (other g);
+        head-is = λ g. ap head at-rank ∙ h;
+        down = λ x i. down in-range x (rw (ne-eqb why givenReason other, at-middle, at-rank) at i);
+      }
 
-      rule-premises : premises (J .rules) reasons p ≡ rulePremises (fromState p) middle (toState p) ρ
-      unfolding premises
-      rule-premises =
-          let other : reasonAt reasons p ≡ givenReason → ⊥ = λ g. omega (arith, rule .0, range .rule-count) in
-          let at-middle : (reasonAt reasons p - 1) % 32 ≡ middle = omega arith in
-          rw (ne-eqb (reasonAt reasons p) givenReason other)
-          (λ i. rulePremises (fromState p) (at-middle i) (toState p) (at-rank i))
-
-      rule-leads :
-          head ρ ≡ symbolAt p →
-          ((x : ℕ) → List·Memᴰ x (rulePremises (fromState p) middle (toState p) ρ) → DonePlace t x
-          × (height x < height p)) →
-          Leads J reasons t height p
-      rule-leads h down =
-          record {
-            fits = inr (omega arith, omega (arith, rule .0));
-            head-is = λ other. ap head at-rank ∙ h;
-            down = λ x m. down x (rw rule-premises at m);
-          }
-
-  -- a premise of the transition at p
+  -- a premise
   premise-leads :
-      (q X r : ℕ) → q < 32 → X < 64 → r < 32 →
-      Premise (doneAt t) height (place (fromState p) (symbolAt p) (toState p)) q X r →
-      (x : ℕ) → x ≡ place q X r → DonePlace t x × (height x < height p)
+      (q X r : ℕ) → q < 32 → X < 64 → r < 32 → Premise (doneAt (m .table)) (fit .height) (place from symbol to) q X r →
+      (x : ℕ) → x ≡ place q X r → Below x
   unfolding doneIn statuses
   premise-leads q X r ql xl rl a x e =
       rw e (
         record { within = place-below q X r ql xl rl; is-done = a .is-done },
-        subst (λ z. height (place q X r) < height z) (place-of-parts p within) (a .lower),
+        rw (place-of-parts p (d .within)) at (a .lower),
       )
 
-  reason-leads :
-      (n : ℕ) → reasonAt reasons p ≡ n →
-      Reason J (doneAt t) height (fromState p) (symbolAt p) (toState p) n → Leads J reasons t height p
-  reason-leads n at (Reason.by-given g e) = given-leads (at ∙ e)
+  reason-leads : (n : ℕ) → why ≡ n → Reason J (doneAt (m .table)) (fit .height) from symbol to n → Leads
+  reason-leads n at (Reason.by-given g e) = given-leads (at ∙ e) (λ smallest. g)
   reason-leads n at (Reason.by-empty rank g e rule s l) =
-      rule-leads rank 0 (empty (symbolAt p)) rule (omega arith) (at ∙ e) refl (λ x m. absurd (List·Memᴰ·not-nil m))
+      rule-leads rank 0 (empty symbol) (at ∙ e) (omega arith) rule refl (λ low x i. absurd (List·Memᴰ·not-nil i))
   reason-leads n at (Reason.by-unit rank X g e rule a) =
-      let ρ : Rule = unit (symbolAt p) X in
-      let in-range = rule-range J range rank ρ rule in
-      rule-leads rank 0 ρ rule (omega arith) (at ∙ e) refl
-      (λ x m.
-      premise-leads (fromState p) X (toState p) (from-state-below p within) (in-range .1) (to-state-below p) a x
-      (List·Memᴰ·eq-of-singleton m))
+      rule-leads rank 0 _ (at ∙ e) (omega arith) rule refl
+      (λ low x i. premise-leads from X to (omega arith) (low .1) (omega arith) a x (List·Memᴰ·eq-of-singleton i))
   reason-leads n at (Reason.by-pair rank X Y middle g e small rule a b) =
-      let ρ : Rule = pair (symbolAt p) X Y in
-      let in-range = rule-range J range rank ρ rule in
-      rule-leads rank middle ρ rule small (at ∙ e) refl
-      (λ x m.
-      ⊎-elim
-      (λ s. premise-leads (fromState p) X middle (from-state-below p within) (in-range .1) small a x s)
-      (λ k.
-      premise-leads middle Y (toState p) small (in-range .2) (to-state-below p) b x (List·Memᴰ·eq-of-singleton k))
-      (List·Memᴰ·cases-cons m))
+      rule-leads rank middle _ (at ∙ e) small rule refl
+      (λ low x i. ⊎-elim (premise-leads from X middle (omega arith) (low .1) small a x)
+      (λ k. premise-leads middle Y to small (low .2) (omega arith) b x (List·Memᴰ·eq-of-singleton k))
+      (List·Memᴰ·cases-cons i))
 
--- the reason of a done place: given for a terminal's, one that fits for a variable's
-module _ (J : Job) (range : InRange J) (m : Lent) (fit : ReasonsFit J (statuses (m .table)) (m .reasons)) (p : ℕ)
-    (d : DonePlace (m .table) p) where
-  abbrev stored : ℕ
-  stored = getD (m .reasons) (reasonPlace (fromState p) (symbolAt p) (toState p)) 0
-
-  terminal-reason : leb 32 (symbolAt p) ≡ true → reasonAt (m .reasons) p ≡ givenReason
-  terminal-reason e = ap (λ b. cond b givenReason stored) e
-
-  variable-reason : leb 32 (symbolAt p) ≡ false → reasonAt (m .reasons) p ≡ stored
-  variable-reason e = ap (λ b. cond b givenReason stored) e
-
-  reason-fits :
-      leb 32 (symbolAt p) ≡ false →
-      Reason J (doneAt (m .table)) (fit .height) (fromState p) (symbolAt p) (toState p) stored
-  unfolding statuses
-  reason-fits e =
-      let at : place (fromState p) (symbolAt p) (toState p) ≡ p = place-of-parts p (d .within) in
-      let byte = getD (m .table) (place (fromState p) (symbolAt p) (toState p)) 0 in
-      fit .fits (fromState p) (symbolAt p) (toState p) (from-state-below p (d .within)) (leb-false 32 (symbolAt p) e)
-      (to-state-below p) (done-not-absent (byteStatus byte) (ap (λ z. isDone (getD (m .table) z 0)) at ∙ d .is-done))
-
-  place-leads : Leads J (m .reasons) (m .table) (fit .height) p
-  place-leads =
-      cases
-      (leb 32 (symbolAt p))
-      (λ e. given-leads J range (m .reasons) (m .table) (fit .height) p (d .within) (terminal-reason e))
-      (λ e.
-      reason-leads J range (m .reasons) (m .table) (fit .height) p (d .within) stored (variable-reason e)
-      (reason-fits e))
-
-  -- a variable's transition whose reason says given is given
-  given-by-reason :
-      (n : ℕ) → Reason J (doneAt (m .table)) (fit .height) (fromState p) (symbolAt p) (toState p) n →
-      n ≡ givenReason →
-      J .given (fromState p) (symbolAt p) (toState p) ≡ true
-  given-by-reason n (Reason.by-given g e) at = g
-  given-by-reason n (Reason.by-empty rank g e rule s l) at = absurd (omega (arith, rule .0, range .rule-count))
-  given-by-reason n (Reason.by-unit rank X g e rule a) at = absurd (omega (arith, rule .0, range .rule-count))
-  given-by-reason n (Reason.by-pair rank X Y middle g e small rule a b) at =
-      absurd (omega (arith, rule .0, range .rule-count))
-
-  -- and so is each transition of a terminal in the smallest set, as no rule adds one
-  given-in-smallest :
-      32 ≤ symbolAt p → {q X r : ℕ} → X ≡ symbolAt p → Smallest J q X r → J .given q X r ≡ true
-  given-in-smallest h e (Closure.given g) = g
-  given-in-smallest h e (Closure.by-empty {A = A} rule l) =
-      let low : A < 32 = range .rules (empty A) rule in absurd (omega arith)
-  given-in-smallest h e (Closure.by-unit {A = A} {X = X} rule c) =
-      let low : A < 32 = range .rules (unit A X) rule .0 in absurd (omega arith)
-  given-in-smallest h e (Closure.by-pair {A = A} {X = X} {Y = Y} rule c k) =
-      let low : A < 32 = range .rules (pair A X Y) rule .0 in absurd (omega arith)
-
-  given-is-given :
-      DecidesSmallest J (doneAt (m .table)) → reasonAt (m .reasons) p ≡ givenReason →
-      J .given (fromState p) (symbolAt p) (toState p) ≡ true
+  -- a terminal's reason is given, a variable's fits
+  place-leads : Leads
   unfolding doneIn statuses
-  given-is-given smallest e =
-      cases
-      (leb 32 (symbolAt p))
-      (λ h.
-      given-in-smallest (leb-true 32 (symbolAt p) h) refl
-      (smallest (fromState p) (symbolAt p) (toState p) (from-state-below p (d .within)) (omega arith)
-      (to-state-below p)
-      .0 (ap (λ z. isDone (getD (m .table) z 0)) (place-of-parts p (d .within)) ∙ d .is-done)))
-      (λ h. given-by-reason stored (reason-fits h) (sym (variable-reason h) ∙ e))
+  place-leads =
+      let done : isDone (getD (m .table) (place from symbol to) 0) ≡ true =
+      rw (place-of-parts p (d .within)) (d .is-done) in
+      cases (leb 32 symbol)
+      (λ e. given-leads (rw e)
+      (λ smallest. given-in-smallest range (leb-true 32 symbol e)
+      (smallest from symbol to (omega arith) (omega arith) (omega arith) .0 done)))
+      (λ e. reason-leads _ (rw e)
+      (fit .fits from symbol to (omega arith) (leb-false 32 symbol e) (omega arith)
+      (done-not-absent (byteStatus (getD (m .table) _ 0)) done)))
 
-pub grounded-by-reasons :
-    (J : Job) → InRange J → (m : Lent) → ReasonsFit J (statuses (m .table)) (m .reasons) →
-    Grounded (J .rules) (m .reasons) (m .table)
-unfolding statuses
-grounded-by-reasons J range m fit =
-    record {
-      height = fit .height;
-      bounded = λ p d. omega (arith, fit .done-bounded p (d .within) (d .is-done), done-bound (m .table));
-      reason = λ p d. place-leads J range m fit p d .fits;
-      premise-done = λ p q d i. place-leads J range m fit p d .down q i .0;
-      premise-lower = λ p q d i. place-leads J range m fit p d .down q i .1;
-    }
+module _ (J : Job) (range : InRange J) (m : Lent) (fit : ReasonsFit J (statuses (m .table)) (m .reasons)) where
+  pub grounded-by-reasons : Grounded (J .rules) (m .reasons) (m .table)
+  unfolding statuses
+  grounded-by-reasons =
+      record {
+        height = fit .height;
+        bounded = λ p d. omega (arith, fit .done-bounded p (d .within) (d .is-done), done-bound (m .table));
+        reason = λ p d. place-leads J range m fit p d .fits;
+        premise-done = λ p q d i. place-leads J range m fit p d .down q i .0;
+        premise-lower = λ p q d i. place-leads J range m fit p d .down q i .1;
+      }
 
-pub true-by-reasons :
-    (J : Job) → InRange J → (m : Lent) → ReasonsFit J (statuses (m .table)) (m .reasons) →
-    DecidesSmallest J (doneAt (m .table)) →
-    TrueReasons (J .rules) (J .given) (m .reasons) (m .table)
-true-by-reasons J range m fit smallest =
-    record {
-      is-given = λ p d e. given-is-given J range m fit p d smallest e;
-      head-is = λ p d other. place-leads J range m fit p d .head-is other;
-    }
+  pub true-by-reasons :
+      DecidesSmallest J (doneAt (m .table)) → TrueReasons (J .rules) (J .given) (m .reasons) (m .table)
+  true-by-reasons smallest =
+      record {
+        is-given = λ p d. place-leads J range m fit p d .is-given smallest;
+        head-is = λ p d. place-leads J range m fit p d .head-is;
+      }

@@ -17,7 +17,7 @@ pub mod Distinct
 pub mod WalkPath
 pub mod Walks
 pub mod WalkMoves
-pub mod WalkInvariant
+pub mod WalkStarts
 pub mod Unmarking
 pub mod ListAll
 pub mod RunOrder

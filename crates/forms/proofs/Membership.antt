@@ -1,11 +1,6 @@
 -- Where the done transitions are the closure, a path of done transitions along a form is a path of the closure, and
 -- so a derivation into the given automaton. Assumes nothing.
-use mathlib.Core.Path.{_≡_}
-use mathlib.Core.Logic.{_↔_}
-use mathlib.Core.Bool.{Bool, true}
-use mathlib.Core.List.{List}
-use Prim.Native.Nat.{ℕ, suc, _<_, _≤_}
-use native.Mathlib.Omega.{arith}
+use Rattle.grammar.proofs.Basics.{_≡_, _↔_, true, Bool, List, ℕ, _<_, _≤_, suc, arith}
 use Rattle.grammar.specs.Automaton.{Holds, StatesBelow, Path, here, along}
 use Rattle.grammar.proofs.PreStar.{path-derives, derives-path}
 use Rattle.grammar.proofs.Smallest.{closure-below}
@@ -18,15 +13,13 @@ use Rattle.forms.proofs.FinishPaths.{finish-path, path-finish}
 module _ (J : Job) (done : ℕ → ℕ → ℕ → Bool) (few : J .states ≤ 32)
     (given-below : StatesBelow (Holds (J .given)) (J .states)) (start : J .initial < J .states)
     (smallest : DecidesSmallest J done) where
-  done-to-closure :
-      {q r : ℕ} {w : List ℕ} → SymbolsFit w → Path (Done done) q w r → Path (Smallest J) q w r
+  done-to-closure : {q r : ℕ} {w : List ℕ} → SymbolsFit w → Path (Done done) q w r → Path (Smallest J) q w r
   done-to-closure fit here = here
   done-to-closure fit (along {q = q} {X = X} {m = m} {w = w} d p) =
       along (smallest q X m (d .0) (omega (arith, fit 0 (omega arith))) (d .1) .0 (d .2))
       (done-to-closure (λ i l. fit (suc i) (omega arith)) p)
 
-  closure-to-done :
-      {q r : ℕ} {w : List ℕ} → SymbolsFit w → Path (Smallest J) q w r → Path (Done done) q w r
+  closure-to-done : {q r : ℕ} {w : List ℕ} → SymbolsFit w → Path (Smallest J) q w r → Path (Done done) q w r
   closure-to-done fit here = here
   closure-to-done fit (along {q = q} {X = X} {m = m} {w = w} c p) =
       let below = closure-below given-below q X m c in

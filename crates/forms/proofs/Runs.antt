@@ -1,156 +1,117 @@
 -- A visit is a run of listings: each of a done place that is not listed yet, below a height, and of which every
 -- premise is listed. What holds of visits follows by induction on the run. Assumes nothing.
-use mathlib.Core.Path.{_≡_, refl, _∙_, ap}
-use mathlib.Core.Logic.{⊎-elim}
-use mathlib.Core.Bool.{true, false, cond}
-use mathlib.Core.List.{List, [], _∷_, List·Memᴰ, List·Memᴰ·head, List·Memᴰ·tail, List·Memᴰ·cases-cons}
-use mathlib.Core.List.{List·Memᴰ·not-nil}
-use Prim.Native.Nat.{ℕ, zero, suc, _≤_, _<_}
-use native.Mathlib.Omega.{arith}
-use lib.Dec.{eqb}
-use lib.ListN.{length, getD, set, length-set}
-use lib.Seq.{getD-set-same, getD-set-other}
-use borrow.Author.Tests.{eqb-true, eqb-false, eq-eqb}
-use Rattle.grammar.proofs.Basics.{cases}
+use Rattle.grammar.proofs.Basics.{_≡_, refl, _∙_, sym, ap, subst, ⊎-elim, true, false, List, _∷_, [], List·Memᴰ}
+use Rattle.grammar.proofs.Basics.{List·Memᴰ·head, List·Memᴰ·tail, List·Memᴰ·not-nil, List·Memᴰ·cases-cons, ℕ, _<_, _≤_}
+use Rattle.grammar.proofs.Basics.{suc, zero, arith, eqb, length, getD, set, length-set, getD-set-other, getD-set-same}
+use Rattle.grammar.proofs.Basics.{eq-eqb, eqb-true, eqb-false, cases}
 use Rattle.grammar.specs.Rule.{Rule}
 use Rattle.saturation.specs.Table.{tableSize}
-use Rattle.forms.specs.Listing.{Listed, listing, inTurn, premises, visit, isListed}
+use Rattle.forms.specs.Listing.{Listed, listing, inTurn, premises, visit, isListed, depthBound}
 use Rattle.forms.specs.Grounded.{DonePlace, Grounded}
+use Rattle.forms.proofs.Visits.{bound-enough}
 
--- listings of done places of the table t, one after the other, of heights below a bound
-pub data Run (ρs : List Rule) (reasons t : List ℕ) (height : ℕ → ℕ) (bound : ℕ) (l : Listed) : Listed → Type 0 where
-  nothing : Run ρs reasons t height bound l l
-  more :
-      {l' : Listed} (p : ℕ) → Run ρs reasons t height bound l l' → DonePlace t p → height p < bound →
-      isListed (l' .table) p ≡ false →
-      ((q : ℕ) → List·Memᴰ q (premises ρs reasons p) → isListed (l' .table) q ≡ true) →
-      Run ρs reasons t height bound l (listing p l')
+-- a done place that is not listed, and of which every premise is
+pub record Due (ρs : List Rule) (reasons t now : List ℕ) (p : ℕ) : Type 0 where
+  pub done : DonePlace t p
+  pub unlisted : isListed now p ≡ false
+  pub behind : (q : ℕ) → List·Memᴰ q (premises ρs reasons p) → isListed now q ≡ true
+
+-- listings of done places, one after the other, of heights below a bound, on a table of full size
+pub data Run {ρs : List Rule} {reasons t : List ℕ} (g : Grounded ρs reasons t) (bound : ℕ) (l : Listed) : Listed → Type
+    0 where
+  nothing : tableSize ≤ length (l .table) → Run g bound l l
+  more : {l' : Listed} (p : ℕ) → Run g bound l l' → Due ρs reasons t (l' .table) p → g .height p < bound →
+      Run g bound l (listing p l')
 
 -- after one listing
 pub listing-lists : (t : List ℕ) (p : ℕ) → p < length t → isListed (set t p 3) p ≡ true
-listing-lists t p h = eq-eqb (getD (set t p 3) p 0) 3 (getD-set-same t p 3 0 h)
+listing-lists t p h = eq-eqb _ 3 (getD-set-same t p 3 0 h)
 
-pub listing-keeps : (t : List ℕ) (p q : ℕ) → isListed t q ≡ true → isListed (set t p 3) q ≡ true
-listing-keeps t p q e =
-    cases
-    (eqb q p)
-    (λ s.
-    let same : q ≡ p = eqb-true q p s in
-    rw same (listing-lists t p (below t p (eqb-true (getD t p 0) 3 (rw (← same) e)))))
-    (λ s. rw (getD-set-other t p q 3 0 (eqb-false q p s)) e)
-  where
-    below : (xs : List ℕ) (k : ℕ) → getD xs k 0 ≡ 3 → k < length xs
-    below [] k h = absurd (omega arith)
-    below (x ∷ xs) zero h = omega arith
-    below (x ∷ xs) (suc k) h = let i : k < length xs = below xs k h in omega arith
+-- a byte of a table after a write, by whether it was written
+pub set-cases :
+    (P : ℕ → Type 0) (t : List ℕ) (p q v : ℕ) → p < length t → (q ≡ p → P v) → ((q ≡ p → ⊥) → P (getD t q 0)) →
+    P (getD (set t p v) q 0)
+set-cases P t p q v h here there =
+    cases (eqb q p)
+    (λ e.
+    let same : q ≡ p = eqb-true q p e in
+    subst P (sym (ap (λ k. getD (set t p v) k 0) same ∙ getD-set-same t p v 0 h)) (here same))
+    (λ e. rw (getD-set-other t p q v 0 (eqb-false q p e)) (there (eqb-false q p e)))
 
-module _ {ρs : List Rule} {reasons t : List ℕ} {height : ℕ → ℕ} where
+module _ {ρs : List Rule} {reasons t : List ℕ} {g : Grounded ρs reasons t} where
   -- runs join, and a run below a height is one below a greater one
-  pub run-trans :
-      {b : ℕ} {l l' l'' : Listed} → Run ρs reasons t height b l l' → Run ρs reasons t height b l' l'' →
-      Run ρs reasons t height b l l''
-  run-trans r Run.nothing = r
-  run-trans r (Run.more p s d h u a) = Run.more p (run-trans r s) d h u a
+  pub run-trans : {b : ℕ} {l l' l'' : Listed} → Run g b l l' → Run g b l' l'' → Run g b l l''
+  run-trans r (Run.nothing long) = r
+  run-trans r (Run.more p s d h) = Run.more p (run-trans r s) d h
 
-  pub run-weaken : {b c : ℕ} {l l' : Listed} → b ≤ c → Run ρs reasons t height b l l' → Run ρs reasons t height c l l'
-  run-weaken k Run.nothing = Run.nothing
-  run-weaken k (Run.more p s d h u a) = Run.more p (run-weaken k s) d (omega arith) u a
+  run-weaken : {b c : ℕ} {l l' : Listed} → b ≤ c → Run g b l l' → Run g c l l'
+  run-weaken k (Run.nothing long) = Run.nothing long
+  run-weaken k (Run.more p s d h) = Run.more p (run-weaken k s) d (omega arith)
 
-  pub run-length : {b : ℕ} {l l' : Listed} → Run ρs reasons t height b l l' → length (l' .table) ≡ length (l .table)
-  run-length Run.nothing = refl
-  run-length (Run.more {l' = m} p s d h u a) = length-set (m .table) p 3 ∙ run-length s
+  module _ {b : ℕ} {l : Listed} where
+    pub run-length : {l' : Listed} → Run g b l l' → length (l' .table) ≡ length (l .table)
+    run-length (Run.nothing long) = refl
+    run-length (Run.more {l' = m} p s d h) = length-set (m .table) p 3 ∙ run-length s
 
-  -- what is listed stays so, and what is higher stays as it is
-  pub run-keeps :
-      {b : ℕ} {l l' : Listed} → Run ρs reasons t height b l l' → (q : ℕ) → isListed (l .table) q ≡ true →
-      isListed (l' .table) q ≡ true
-  run-keeps Run.nothing q e = e
-  run-keeps (Run.more {l' = m} p s d h u a) q e = listing-keeps (m .table) p q (run-keeps s q e)
+    pub run-long : {l' : Listed} → Run g b l l' → tableSize ≤ length (l' .table)
+    run-long (Run.nothing long) = long
+    run-long (Run.more {l' = m} p s d h) = omega (arith, length-set (m .table) p 3, run-long s)
 
-  pub run-leaves :
-      {b : ℕ} {l l' : Listed} → Run ρs reasons t height b l l' → (q : ℕ) → b ≤ height q → getD (l' .table) q 0
-      ≡ getD (l .table) q 0
-  run-leaves Run.nothing q k = refl
-  run-leaves (Run.more {l' = m} p s d h u a) q k =
-      getD-set-other (m .table) p q 3 0 (λ e. let f : height q ≡ height p = ap height e in omega arith)
-      ∙ run-leaves s q k
+    -- what is listed stays so, and what is higher stays as it is
+    pub run-keeps :
+        {l' : Listed} → Run g b l l' → (q : ℕ) → isListed (l .table) q ≡ true → isListed (l' .table) q ≡ true
+    run-keeps (Run.nothing long) q e = e
+    run-keeps (Run.more {l' = m} p s d h) q e =
+        set-cases (λ b. eqb b 3 ≡ true) (m .table) p q 3 (omega (arith, run-long s, d .done .within)) (λ same. refl)
+        (λ other. run-keeps s q e)
 
--- places visited in turn, each visit a run that lists its place
-module _ (ρs : List Rule) (reasons t : List ℕ) (height : ℕ → ℕ) (f : ℕ → Listed → Listed) (b : ℕ) where
-  abbrev pub Visits : List ℕ → Type 0
-  Visits ps =
-      (p : ℕ) → List·Memᴰ p ps → (l : Listed) → tableSize ≤ length (l .table) →
-      Run ρs reasons t height b l (f p l) × (isListed (f p l .table) p ≡ true)
+    pub run-leaves :
+        {l' : Listed} → Run g b l l' → (q : ℕ) → b ≤ g .height q → getD (l' .table) q 0 ≡ getD (l .table) q 0
+    run-leaves (Run.nothing long) q k = refl
+    run-leaves (Run.more {l' = m} p s d h) q k =
+        getD-set-other (m .table) p q 3 0 (λ e. omega (arith, ap (g .height) e)) ∙ run-leaves s q k
 
-  pub in-turn-runs :
-      (ps : List ℕ) → Visits ps → (l : Listed) → tableSize ≤ length (l .table) →
-      Run ρs reasons t height b l (inTurn f ps l)
-  unfolding inTurn
-  in-turn-runs [] v l long = Run.nothing
-  in-turn-runs (p ∷ ps) v l long =
-      let first = v p (List·Memᴰ·head refl) l long .0 in
-      run-trans first (in-turn-runs ps (λ q m. v q (List·Memᴰ·tail m)) (f p l) (omega (arith, run-length first)))
+module _ {ρs : List Rule} {reasons t : List ℕ} (g : Grounded ρs reasons t) where
+  -- a run that lists a place
+  abbrev Lists : ℕ → (Listed → Listed) → ℕ → Type 0
+  Lists b f p = (l : Listed) → tableSize ≤ length (l .table) → Run g b l (f l) × (isListed (f l .table) p ≡ true)
 
-  pub in-turn-lists :
-      (ps : List ℕ) → Visits ps → (l : Listed) → tableSize ≤ length (l .table) → (q : ℕ) → List·Memᴰ q ps →
-      isListed (inTurn f ps l .table) q ≡ true
-  unfolding inTurn
-  in-turn-lists [] v l long q m = absurd (List·Memᴰ·not-nil m)
-  in-turn-lists (p ∷ ps) v l long q m =
-      let first = v p (List·Memᴰ·head refl) l long in
-      let long' : tableSize ≤ length (f p l .table) = omega (arith, run-length (first .0)) in
-      ⊎-elim
-      (λ e. run-keeps (in-turn-runs ps (λ q m. v q (List·Memᴰ·tail m)) (f p l) long') q (rw e (first .1)))
-      (λ m'. in-turn-lists ps (λ q m. v q (List·Memᴰ·tail m)) (f p l) long' q m')
-      (List·Memᴰ·cases-cons m)
-
-module _ (ρs : List Rule) (reasons t : List ℕ) (g : Grounded ρs reasons t) where
-  -- a visit is a run below the next height, and lists its place
-  abbrev pub Lists : (Listed → Listed) → ℕ → Type 0
-  Lists f p =
+  -- such runs in turn are one that lists all the places
+  in-turn-runs : (f : ℕ → Listed → Listed) (b : ℕ) (ps : List ℕ) → ((p : ℕ) → List·Memᴰ p ps → Lists b (f p) p) →
       (l : Listed) → tableSize ≤ length (l .table) →
-      Run ρs reasons t (g .height) (suc (g .height p)) l (f l) × (isListed (f l .table) p ≡ true)
-
-  -- one that lists the premises in turn, then the place, unless it is listed
-  after-premises :
-      (f : ℕ → Listed → Listed) (p : ℕ) → DonePlace t p →
-      ((q : ℕ) → List·Memᴰ q (premises ρs reasons p) → Lists (f q) q) →
-      Lists (λ l. cond (isListed (l .table) p) l (listing p (inTurn f (premises ρs reasons p) l))) p
-  after-premises f p d each l long =
-      cases (isListed (l .table) p) (λ e. rw e (Run.nothing, e)) (λ e. rw e (unlisted e))
-    where
-      visits : Visits ρs reasons t (g .height) f (g .height p) (premises ρs reasons p)
-      visits q i m k =
-          let low : g .height q < g .height p = g .premise-lower p q d i in
-          let v = each q i m k in
-          (run-weaken low (v .0), v .1)
-
-      all : Run ρs reasons t (g .height) (g .height p) l (inTurn f (premises ρs reasons p) l)
-      all = in-turn-runs ρs reasons t (g .height) f (g .height p) (premises ρs reasons p) visits l long
-
-      unlisted :
-          isListed (l .table) p ≡ false →
-          Run ρs reasons t (g .height) (suc (g .height p)) l (listing p (inTurn f (premises ρs reasons p) l))
-          × (isListed (set (inTurn f (premises ρs reasons p) l .table) p 3) p ≡ true)
-      unlisted e = (
-        Run.more
-            p
-            (run-weaken (omega arith) all)
-            d
-            (omega arith)
-            (ap (λ z. eqb z 3) (run-leaves all p (omega arith)) ∙ e)
-            (in-turn-lists ρs reasons t (g .height) f (g .height p) (premises ρs reasons p) visits l long),
-        listing-lists (inTurn f (premises ρs reasons p) l .table) p (omega (arith, run-length all, d .within)),
+      Run g b l (inTurn f ps l) × ((q : ℕ) → List·Memᴰ q ps → isListed (inTurn f ps l .table) q ≡ true)
+  unfolding inTurn
+  in-turn-runs f b [] v l long = (Run.nothing long, λ q m. absurd (List·Memᴰ·not-nil m))
+  in-turn-runs f b (p ∷ ps) v l long =
+      let (first, lists) = v p (List·Memᴰ·head refl) l long in
+      let (rest, all) = in-turn-runs f b ps (λ q m. v q (List·Memᴰ·tail m)) _ (run-long first) in (
+        run-trans first rest,
+        λ q m. ⊎-elim (λ e. run-keeps rest q (rw e lists)) (all q) (List·Memᴰ·cases-cons m),
       )
 
-  pub visit-runs : (n p : ℕ) → DonePlace t p → g .height p < n → Lists (visit n ρs reasons p) p
+  -- a visit lists its place after its premises, which are lower
+  pub visit-runs : (n b p : ℕ) → DonePlace t p → g .height p < n → g .height p < b → Lists b (visit n ρs reasons p) p
   unfolding visit
-  visit-runs zero p d h = absurd (omega arith)
-  visit-runs (suc n) p d h =
-      after-premises
-      (visit n ρs reasons)
-      p
-      d
+  visit-runs zero b p d h k l long = absurd (omega arith)
+  visit-runs (suc n) b p d h k l long =
+      let (run, all) = in-turn-runs _ _ _
       (λ q i.
       let low : g .height q < g .height p = g .premise-lower p q d i in
-      visit-runs n q (g .premise-done p q d i) (omega arith))
+      visit-runs n _ q (g .premise-done p q d i) (omega arith) low)
+      l long in
+      cases (isListed (l .table) p) (λ e. rw e (Run.nothing long, e))
+      (λ e.
+      rw e (
+        Run.more p (run-weaken (omega arith) run)
+            (record { done = d; unlisted = ap (λ z. eqb z 3) (run-leaves run p (omega arith)) ∙ e; behind = all }) k,
+        listing-lists (inTurn _ _ l .table) p (omega (arith, run-long run, d .within)),
+      ))
+
+  -- done places visited in turn
+  pub visits-run :
+      (ps : List ℕ) → ((p : ℕ) → List·Memᴰ p ps → DonePlace t p) → (l : Listed) → tableSize ≤ length (l .table) →
+      Run g depthBound l (inTurn (visit depthBound ρs reasons) ps l)
+      × ((q : ℕ) → List·Memᴰ q ps → isListed (inTurn (visit depthBound ρs reasons) ps l .table) q ≡ true)
+  visits-run ps done =
+      in-turn-runs _ depthBound ps
+      (λ p m. let low = bound-enough g p (done p m) in visit-runs depthBound depthBound p (done p m) low low)

@@ -1,13 +1,7 @@
 -- Laws of `some`: a number that passes is found, and there is a first one exactly where there is one. Assumes
 -- nothing.
-use mathlib.Core.Path.{_≡_, refl}
-use mathlib.Core.Logic.{⊎-elim}
-use mathlib.Core.Bool.{Bool, true, false, _||_, false≢true}
-use Prim.Native.Nat.{ℕ, zero, suc, _<_}
-use native.Mathlib.Omega.{arith}
-use lib.Dec.{eqb, ltb}
-use borrow.Author.Tests.{ltb-true, lt-ltb, eqb-true, eqb-false}
-use Rattle.grammar.proofs.Basics.{cases, same-test, or-split, or-left, or-right}
+use Rattle.grammar.proofs.Basics.{_≡_, refl, ⊎-elim, true, Bool, _||_, false≢true, ℕ, _<_, suc, zero, arith, eqb, ltb}
+use Rattle.grammar.proofs.Basics.{eqb-true, eqb-false, ltb-true, lt-ltb, cases, same-test, or-split, or-left, or-right}
 use Rattle.saturation.specs.Step.{firstFrom}
 use Rattle.saturation.proofs.Tables.FirstFrom.{first-least, first-passes}
 use Rattle.forms.specs.Acceptance.{some}
@@ -17,14 +11,9 @@ pub some-found : (f : ℕ → Bool) (n i : ℕ) → i < n → f i ≡ true → s
 unfolding some
 some-found f zero i l e = absurd (omega arith)
 some-found f (suc n) i l e =
-    cases
-    (eqb i n)
-    (λ c.
-    let same : i ≡ n = eqb-true i n c in
-    or-right (some f n) (f n) (rw (← same) e))
-    (λ c.
-    let other : ¬ (i ≡ n) = eqb-false i n c in
-    or-left (some f n) (f n) (some-found f n i (omega arith) e))
+    cases (eqb i n)
+    (λ c. let same : i ≡ n = eqb-true i n c in or-right (some f n) (f n) (rw (← same) e))
+    (λ c. let other : ¬ (i ≡ n) = eqb-false i n c in or-left _ (f n) (some-found f n i (omega arith) e))
 
 -- what is found passes
 pub some-passes : (f : ℕ → Bool) (n : ℕ) → some f n ≡ true → (i : ℕ) × (i < n) × (f i ≡ true)
@@ -33,8 +22,7 @@ some-passes f zero e = absurd (false≢true e)
 some-passes f (suc n) e =
     ⊎-elim
     (λ below. let found = some-passes f n below in (found .0, omega (arith, found .1), found .2))
-    (λ last. (n, omega arith, last))
-    (or-split (some f n) (f n) e)
+    (λ last. (n, omega arith, last)) (or-split _ (f n) e)
 
 -- tests that agree below n find alike
 pub some-cong : (f g : ℕ → Bool) (n : ℕ) → ((i : ℕ) → i < n → f i ≡ g i) → some f n ≡ some g n
@@ -50,8 +38,6 @@ first-of-some f n e =
 
 pub some-is-first : (f : ℕ → Bool) (n : ℕ) → some f n ≡ ltb (firstFrom f 0 n) n
 some-is-first f n =
-    same-test (some f n) (ltb (firstFrom f 0 n) n)
-    (λ e. lt-ltb (firstFrom f 0 n) n (first-of-some f n e))
-    (λ e.
-    let l : firstFrom f 0 n < n = ltb-true (firstFrom f 0 n) n e in
-    some-found f n (firstFrom f 0 n) l (first-passes f 0 n (omega arith)))
+    same-test _ _
+    (λ e. lt-ltb _ n (first-of-some f n e))
+    (λ e. let l : firstFrom f 0 n < n = ltb-true _ n e in some-found f n _ l (first-passes f 0 n (omega arith)))

@@ -1,18 +1,12 @@
 -- A table that a start and steps have written has no byte 3, as a start writes 0 and 1 and a step 2 and 1; and its
 -- reasons lead down. So a form can be explained on it. Assumes nothing.
-use mathlib.Core.Path.{_≡_, refl}
-use mathlib.Core.Bool.{Bool, true, false, cond, _||_}
-use mathlib.Core.List.{List}
-use Prim.Native.Nat.{ℕ, _≤_, _<_}
-use native.Mathlib.Omega.{arith}
-use lib.Dec.{eqb}
-use lib.ListN.{length, getD}
-use borrow.Author.Tests.{lt-leb}
+use Rattle.grammar.proofs.Basics.{_≡_, refl, true, false, Bool, cond, _||_, List, ℕ, _<_, _≤_, arith, eqb, length}
+use Rattle.grammar.proofs.Basics.{getD, lt-leb}
 use Rattle.grammar.specs.Rule.{Rule}
 use Rattle.job.specs.Job.{Job, jobOf}
 use Rattle.saturation.specs.Table.{Lent, tableSize, fromState, symbolAt, toState, Statuses, statuses}
 use Rattle.saturation.specs.Start.{started, startByte, isEmptyAt}
-use Rattle.saturation.specs.Step.{lowest, comesIn, byteAfter, taking}
+use Rattle.saturation.specs.Step.{comesIn, taking}
 use Rattle.saturation.specs.Advance.{steps}
 use Rattle.saturation.proofs.MachineChecks.{Passed}
 use Rattle.job.proofs.AcceptedFacts.{in-range}
@@ -40,8 +34,7 @@ unfolding started
 started-unlisted J m long =
     record {
       long = omega (arith, long, started-length J m);
-      none-listed = λ p h.
-          rw (getD-each-0 (startByte J) (m .table) p (omega (arith, long)), lt-leb tableSize p h)
+      none-listed = λ p h. rw (getD-each-0 (startByte J) (m .table) p (omega (arith, long)), lt-leb tableSize p h)
           (picked (J .given (fromState p) (symbolAt p) (toState p) || isEmptyAt J (fromState p) (symbolAt p)
           (toState p)) 1 0 refl refl);
     }
@@ -55,20 +48,17 @@ taking-unlisted ρs k m u =
           let old : ℕ = getD (m .table) p 0 in
           let v : Statuses = statuses (m .table) in
           let new : Bool = comesIn ρs v k (fromState p) (symbolAt p) (toState p) in
-          rw (getD-each-0 (byteAfter ρs v k) (m .table) p (omega (arith, u .long)), lt-leb tableSize p h)
-          (picked (eqb p k) 2 (cond new 1 old) refl (picked new 1 old refl (u .none-listed p h)));
+          rw (getD-each-0 _ (m .table) p (omega (arith, u .long)), lt-leb tableSize p h)
+          (picked (eqb p k) 2 _ refl (picked new 1 old refl (u .none-listed p h)));
     }
 
 -- a form can be explained after any number of steps
-pub run-explainable :
-    (job : List ℕ) (m : Lent) → Passed job m → (n : ℕ) →
+pub run-explainable : (job : List ℕ) (m : Lent) → Passed job m → (n : ℕ) →
     Explainable job (steps (jobOf job .rules) n (started (jobOf job) m))
 run-explainable job m passed n =
     let J : Job = jobOf job in
     let range = in-range (passed .ok) in
-    let u =
-    steps-keep Unlisted (J .rules) (λ m' f. taking-unlisted (J .rules) (lowest (statuses (m' .table))) m') n
-    (started J m)
+    let u = steps-keep Unlisted (J .rules) (λ m' f. taking-unlisted (J .rules) _ m') n _
     (started-unlisted J m (passed .long)) in
     record {
       job-accepted = passed .ok;
@@ -82,8 +72,7 @@ run-explainable job m passed n =
                   started-length-reasons J m,
                   steps-keep-rest (J .rules) n (started J m) .long-reasons,
                 );
-            grounded =
-                grounded-by-reasons J range (steps (J .rules) n (started J m))
+            grounded = grounded-by-reasons J range _
                 (run-reasons-fit J range m (passed .long) (passed .long-reasons) n);
           };
       none-listed = u .none-listed;

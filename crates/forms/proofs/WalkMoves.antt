@@ -1,211 +1,216 @@
--- A move of the walk, as the definition of a move has it, keeps it on its way, can be made, and leaves less. Assumes
--- nothing.
-use mathlib.Core.Path.{_≡_, refl, sym}
-use mathlib.Core.Bool.{Bool, cond}
-use mathlib.Core.List.{List, List·Memᴰ, List·Memᴰ·head}
-use Prim.Native.Nat.{ℕ, _+_, _-_, _*_, _≤_, _<_}
-use native.Mathlib.Omega.{arith}
-use lib.Dec.{eqb, leb}
-use lib.ListN.{length, set}
-use lib.Seq.{sets, length-sets}
-use borrow.Author.Tests.{eqb-true, eqb-false, leb-true, leb-false}
-use Rattle.grammar.proofs.Basics.{cases}
+-- A visit underway: the places of the walk's path are left to visit, last first. Each move keeps that, can be made,
+-- and leaves less, as it lists a place or goes down. Assumes nothing.
+use Rattle.grammar.proofs.Basics.{_≡_, refl, _∙_, ap, ⊎-elim, false, Bool, List, _∷_, List·Memᴰ, List·Memᴰ·head}
+use Rattle.grammar.proofs.Basics.{List·Memᴰ·cases-cons, ℕ, _<_, _+_, _-_, _*_, arith, eqb, leb, length, set}
+use Rattle.grammar.proofs.Basics.{length-set, eqb-true, eqb-false, leb-true, leb-false, cases}
 use Rattle.grammar.specs.Rule.{Rule}
 use Rattle.saturation.specs.Table.{tableSize, reasonsSize, symbolAt}
-use Rattle.forms.specs.Listing.{Listed, listing, recordsAt, visit}
+use Rattle.forms.specs.Listing.{Listed, inTurn, premises, visit, isListed, depthBound}
 use Rattle.forms.specs.Grounded.{DonePlace, Grounded}
-use Rattle.forms.specs.Inside.ListingParts.{unlistedCount, CanList, RoomFor, ListingPass, shown}
-use Rattle.forms.specs.Inside.ListingParts.{Walking, moved, CanMove}
-use Rattle.forms.proofs.Runs.{Visits, run-length, run-weaken, in-turn-runs, in-turn-lists, visit-runs}
-use Rattle.forms.proofs.RunLaws.{listing-counts, run-counts, run-grows, done-kept, grounded-kept}
-use Rattle.forms.proofs.Passes.{list-one-shown}
-use Rattle.forms.proofs.Moves.{lists-top, lists-terminal, goes-down}
-use Rattle.forms.proofs.WalkPath.{Link, chain-link, chain-fits, onPath, path-length, path-top}
-use Rattle.forms.proofs.Walks.{Way, leftOf, lastOf, nextFrom, way-of-top, way-of-terminal, way-of-variable}
-use Rattle.forms.proofs.Walks.{path-has-room, left-of-listing, top, next-is-done, next-unlisted}
+use Rattle.forms.specs.Inside.ListingParts.{unlistedCount, CanVisit, ListingPass, fresh, shown, listOne}
+use Rattle.forms.specs.Inside.ListingParts.{visitOne, Walking, topOf, nextOf, moved, CanMove}
+use Rattle.forms.proofs.ReasonLaws.{terminal-no-premise}
+use Rattle.forms.proofs.Runs.{Due, run-long}
+use Rattle.forms.proofs.RunLaws.{listing-counts, run-counts, run-grows, done-kept}
+use Rattle.forms.proofs.Moves.{none-unlisted, some-unlisted}
+use Rattle.forms.proofs.Premises.{visited, premise-before}
+use Rattle.forms.proofs.WalkPath.{Link, Chain, chain-link, chain-top, chain-rest, chain-kept, chain-fits}
+use Rattle.forms.proofs.WalkPath.{onPath, path-length, path-top, path-grows}
+use Rattle.forms.proofs.Walks.{Way, listedBy, out-kept, counted-so-far, can-now, rest-runs, lists-one}
 
-module _ (write : Bool) (ρs : List Rule) (reasons : List ℕ) (a : ListingPass) where
-  -- where a walk stands that has listed l since the pass a
-  abbrev pub standing : Listed → List ℕ → ℕ → Walking
-  standing l path d = record { pass = shown write ρs reasons (a .count) (a .out) l; path = path; depth = d }
+-- a visit of p that began with the pass a stands at s
+pub record Underway (write : Bool) (ρs : List Rule) (reasons : List ℕ) (p : ℕ) (a : ListingPass) (s : Walking) : Type
+    0 where
+  pub first-path : List ℕ
+  pub can : CanVisit write ρs reasons first-path p a
+  pub way :
+      Way write a (can .listable) (visit depthBound ρs reasons p (fresh (a .table))) (onPath (s .path) (s .depth))
+      (s .pass)
+  pub path-full : length (s .path) ≡ reasonsSize
+  pub chain : Chain (can .listable .grounded .height) (a .table) (s .pass .table) (onPath (s .path) (s .depth))
 
-  module _ (l : Listed) (path : List ℕ) (d : ℕ) where
-    moved-top :
-        nextFrom ρs reasons l path d ≡ tableSize → moved write ρs reasons (standing l path d)
-        ≡ standing (listing (lastOf path d) l) path (d - 1)
-    unfolding shown
-    moved-top e =
-        sym
-        (lists-top
-        write
-        ρs
-        reasons
-        (standing l path d)
-        (nextFrom ρs reasons l path d)
-        refl
-        (shown write ρs reasons (a .count) (a .out) (listing (lastOf path d) l))
-        e
-        (sym (list-one-shown write ρs reasons (a .count) (a .out) l (lastOf path d))))
+-- a measure of what is left
+abbrev pub leftOf : List ℕ → ℕ → ℕ
+leftOf t d = unlistedCount t * 32769 + (32768 - d)
 
-    moved-terminal :
-        (nextFrom ρs reasons l path d ≡ tableSize → ⊥) → 32 ≤ symbolAt (nextFrom ρs reasons l path d) →
-        moved write ρs reasons (standing l path d) ≡ standing (listing (nextFrom ρs reasons l path d) l) path d
-    unfolding shown
-    moved-terminal other h =
-        sym
-        (lists-terminal
-        write
-        ρs
-        reasons
-        (standing l path d)
-        (nextFrom ρs reasons l path d)
-        refl
-        (shown write ρs reasons (a .count) (a .out) (listing (nextFrom ρs reasons l path d) l))
-        other
-        h
-        (sym (list-one-shown write ρs reasons (a .count) (a .out) l (nextFrom ρs reasons l path d))))
+module _
+    {write : Bool} {ρs : List Rule} {reasons : List ℕ} {p : ℕ} {a : ListingPass} {s : Walking}
+    (u : Underway write ρs reasons p a s)
+  where
+    abbrev g : Grounded ρs reasons (a .table)
+    g = u .can .listable .grounded
 
-    moved-variable :
-        (nextFrom ρs reasons l path d ≡ tableSize → ⊥) → symbolAt (nextFrom ρs reasons l path d) < 32 →
-        moved write ρs reasons (standing l path d) ≡ standing l (set path d (nextFrom ρs reasons l path d)) (d + 1)
-    unfolding shown
-    moved-variable other v =
-        sym (goes-down write ρs reasons (standing l path d) (nextFrom ρs reasons l path d) refl other v)
+    abbrev final : Listed
+    final = visited g p (fresh (a .table))
 
--- where a move leads
-pub record MovedOn (write : Bool) (ρs : List Rule) (reasons : List ℕ) (a : ListingPass)
-    (g : Grounded ρs reasons (a .table)) (n : ℕ) (final l : Listed) (path : List ℕ) (d : ℕ) : Type 0 where
-  pub listed : Listed
-  pub path-then : List ℕ
-  pub depth-then : ℕ
-  pub moves :
-      moved write ρs reasons (standing write ρs reasons a l path d) ≡ standing write ρs reasons a listed path-then
-      depth-then
-  pub way : Way ρs reasons (a .table) (g .height) n final listed path-then depth-then
-  pub less : leftOf (listed .table) depth-then < leftOf (l .table) d
+    -- what is listed so far, the path, its last place, and that place's first premise that is not listed
+    abbrev so-far : Listed
+    so-far = listedBy (s .pass) (u .way .places)
 
--- a walk on its way: a is the pass that it began with, n fuel enough for every done place
-module _ (write : Bool) {ρs : List Rule} {reasons : List ℕ} (a : ListingPass) (g : Grounded ρs reasons (a .table))
-    {n : ℕ} (enough : (p : ℕ) → DonePlace (a .table) p → g .height p < n) (long : tableSize ≤ length (a .table))
-    {final l : Listed} {path : List ℕ} {d : ℕ} (way : Way ρs reasons (a .table) (g .height) n final l path d)
-    (deep : 0 < d) where
-  pub move-on : MovedOn write ρs reasons a g n final l path d
-  move-on =
-      cases
-      (eqb next tableSize)
-      (λ e.
-      record {
-        listed = listing (lastOf path d) l;
-        path-then = path;
-        depth-then = d - 1;
-        moves = moved-top write ρs reasons a l path d (eqb-true next tableSize e);
-        way = way-of-top g enough long way deep (eqb-true next tableSize e);
-        less = left-of-listing long (lastOf path d) d (d - 1) (way .run) (last .done) (last .unlisted);
-      })
-      (λ e.
-      let other : next ≡ tableSize → ⊥ = eqb-false next tableSize e in
-      cases
-      (leb 32 (symbolAt next))
-      (λ h.
-      record {
-        listed = listing next l;
-        path-then = path;
-        depth-then = d;
-        moves = moved-terminal write ρs reasons a l path d other (leb-true 32 (symbolAt next) h);
-        way = way-of-terminal g enough long way deep other
-            (leb-true 32 (symbolAt next) h);
-        less =
-            left-of-listing long next d d (way .run) (next-is-done g enough long way deep other)
-            (next-unlisted g enough long way deep other);
-      })
-      (λ h.
-      let v : symbolAt next < 32 = leb-false 32 (symbolAt next) h in
-      let room : d < reasonsSize = path-has-room g enough long way deep other
-      v in
-      record {
-        listed = l;
-        path-then = set path d next;
-        depth-then = d + 1;
-        moves = moved-variable write ρs reasons a l path d other v;
-        way = way-of-variable g enough long way deep other v;
-        less = omega arith;
-      }))
-    where
-      next : ℕ
-      next = nextFrom ρs reasons l path d
+    abbrev on : List ℕ
+    on = onPath (s .path) (s .depth)
 
-      last : Link (g .height) (a .table) (l .table) (lastOf path d) (onPath path (d - 1))
-      last = top g enough long way deep
+    abbrev last : ℕ
+    last = topOf s
 
-  -- the rest of the way lists the last place, among others
-  one-more : length (l .places) < length (final .places)
-  one-more =
-      rw (← way .to-come)
-      (run-grows
-      (in-turn-runs ρs reasons (a .table) (g .height) (visit n ρs reasons) n (onPath path d) visits l long-then)
-      (lastOf path d)
-      (last .unlisted)
-      (in-turn-lists ρs reasons (a .table) (g .height) (visit n ρs reasons) n (onPath path d) visits l long-then
-      (lastOf path d) on))
-    where
-      last : Link (g .height) (a .table) (l .table) (lastOf path d) (onPath path (d - 1))
-      last = top g enough long way deep
+    abbrev next : ℕ
+    next = nextOf ρs reasons s
 
-      long-then : tableSize ≤ length (l .table)
-      long-then = omega (arith, run-length (way .run))
+    abbrev Linked : List ℕ → Type 0
+    Linked = Chain (g .height) (a .table) (s .pass .table)
 
-      on : List·Memᴰ (lastOf path d) (onPath path d)
-      on = rw (path-top path d deep) (List·Memᴰ·head refl)
+    -- where a move may lead
+    abbrev MovedTo : Walking → Type 0
+    MovedTo s' =
+        Underway write ρs reasons p a s'
+        × (leftOf (s' .pass .table) (s' .depth) < leftOf (s .pass .table) (s .depth))
 
-      visits : Visits ρs reasons (a .table) (g .height) (visit n ρs reasons) n (onPath path d)
-      visits p m k h =
-          let e : DonePlace (a .table) p = chain-link (way .chain) p m .0 in
-          let r = visit-runs ρs reasons (a .table) g n p e (enough p e) k h in
-          (run-weaken (enough p e) (r .0), r .1)
+    -- at the end of the path all is listed
+    pub arrives : s .depth ≡ 0 → s .pass ≡ visitOne write ρs reasons p a
+    unfolding onPath inTurn
+    arrives e = u .way .stands ∙ ap (shown write ρs reasons (a .count) (a .out)) (rw e at (u .way .to-come))
 
-  -- fewer are listed than the table has places
-  pub uncounted : a .count + unlistedCount (a .table) ≤ tableSize → a .count + length (l .places) < tableSize
-  uncounted counted =
-      let last = top g enough long way deep in
-      omega (
-        arith,
-        run-counts (way .run) long,
-        listing-counts (l .table) (lastOf path d) (last .done .within) (omega (arith, run-length (way .run)))
-            (last .unlisted),
+    -- while it is not used up: its last place, and the rest
+    module _ (deep : 0 < s .depth) where
+      abbrev behind : List ℕ
+      behind = onPath (s .path) (s .depth - 1)
+
+      path-is : on ≡ last ∷ behind
+      path-is = path-top (s .path) (s .depth) deep
+
+      split : Linked (last ∷ behind)
+      split = rw path-is at (u .chain)
+
+      top : Link (g .height) (a .table) (s .pass .table) last behind
+      top = chain-top split
+
+      comes : inTurn (visited g) behind (visited g last so-far) ≡ final
+      unfolding inTurn
+      comes = rw path-is at (u .way .to-come)
+
+      -- a place listed whose turn it is
+      lists : (x d : ℕ) → Due ρs reasons (a .table) (s .pass .table) x →
+          inTurn (visited g) (onPath (s .path) d) (visited g x so-far) ≡ final →
+          ((q : ℕ) → List·Memᴰ q (onPath (s .path) d) → q ≡ x → ⊥) → Linked (onPath (s .path) d) →
+          MovedTo (record { pass = listOne write ρs reasons x (s .pass); path = s .path; depth = d })
+      unfolding shown
+      lists x d due to-come other chain = (
+        record {
+          first-path = u .first-path;
+          can = u .can;
+          way = lists-one (u .way) due to-come;
+          path-full = u .path-full;
+          chain = chain-kept x other chain;
+        },
+        omega (arith, listing-counts (s .pass .table) x (due .done .within) (run-long (u .way .run)) (due .unlisted)),
       )
 
-  pub room-for-one :
-      RoomFor write (a .count + length (final .places)) (a .out) →
-      RoomFor write (a .count + length (l .places) + 1)
-      (cond write (sets (a .out) (8 * a .count) (recordsAt ρs reasons (l .places))) (a .out))
-  room-for-one room e =
-      rw e (omega (arith, room e, one-more, length-sets (a .out) (8 * a .count) (recordsAt ρs reasons (l .places))))
+      -- the first premise that is not listed
+      module _ (other : next ≡ tableSize → ⊥) where
+        next-is : List·Memᴰ next (premises ρs reasons last) × (isListed (s .pass .table) next ≡ false)
+        next-is = some-unlisted _ _ other
 
-  pub deeper :
-      nextFrom ρs reasons l path d < tableSize → symbolAt (nextFrom ρs reasons l path d) < 32 → d < reasonsSize
-  deeper within v = path-has-room g enough long way deep (λ e. omega arith) v
+        next-done : DonePlace (a .table) next
+        next-done = g .premise-done last next (top .done) (next-is .0)
 
-pub can-move :
-    (write : Bool) {ρs : List Rule} {reasons : List ℕ} (a : ListingPass) (can : CanList ρs reasons (a .table)) {n : ℕ}
-    (enough : (p : ℕ) → DonePlace (a .table) p → can .grounded .height p < n) {final l : Listed} {path : List ℕ}
-    {d : ℕ} → Way ρs reasons (a .table) (can .grounded .height) n final l path d → 0 < d →
-    a .count + unlistedCount (a .table) ≤ tableSize → RoomFor write (a .count + length (final .places)) (a .out) →
-    CanMove write ρs reasons (standing write ρs reasons a l path d)
-unfolding shown
-can-move write a can enough {path = path} {d = d} way deep counted room =
-    let g = can .grounded in
-    let last = top g enough (can .long) way deep in
-    record {
-      listable =
+        -- visited before the last place, it changes nothing
+        comes-after : inTurn (visited g) on (visited g next so-far) ≡ final
+        unfolding inTurn
+        comes-after =
+            rw path-is
+            (ap (inTurn (visited g) behind)
+            (premise-before g last (top .done) so-far (top .unlisted) (run-long (u .way .run)) other)
+            ∙ comes)
+
+        -- a variable's goes onto the path
+        longer : symbolAt next < 32 → Linked (next ∷ on)
+        longer v =
+            Chain.link {ps = on}
+            (record {
+              done = next-done;
+              is-variable = v;
+              unlisted = next-is .1;
+              lowest = λ q m.
+                  let below = g .premise-lower last next (top .done) (next-is .0) in
+                  ⊎-elim (λ e. rw e below) (λ k. omega (arith, top .lowest q k))
+                  (List·Memᴰ·cases-cons (rw path-is at m));
+            })
+            (u .chain)
+
+        has-room : symbolAt next < 32 → s .depth < reasonsSize
+        has-room v = omega (arith, chain-fits (longer v), path-length (s .path) (s .depth))
+
+        moves-down : symbolAt next < 32 →
+            MovedTo (record { pass = s .pass; path = set (s .path) (s .depth) next; depth = s .depth + 1 })
+        unfolding inTurn
+        moves-down v =
+            let room = has-room v in
+            let grown = path-grows (s .path) (s .depth) next (omega (arith, u .path-full)) in (
+              record {
+                first-path = u .first-path;
+                can = u .can;
+                way =
+                    record {
+                      places = u .way .places;
+                      run = u .way .run;
+                      to-come = rw grown comes-after;
+                      stands = u .way .stands;
+                    };
+                path-full = length-set (s .path) (s .depth) next ∙ u .path-full;
+                chain = rw grown (longer v);
+              },
+              omega arith,
+            )
+
+      pub moves : {s' : Walking} → s' ≡ moved write ρs reasons s → MovedTo s'
+      unfolding moved
+      moves go =
+          rw go
+          (cases (eqb next tableSize)
+          (λ e. rw e
+          (lists last _
+          (record {
+            done = top .done;
+            unlisted = top .unlisted;
+            behind = none-unlisted _ _ (eqb-true _ tableSize e) (λ q m. g .premise-done last q (top .done) m .within);
+          })
+          comes (λ q m same. omega (arith, top .lowest q m, ap (g .height) same)) (chain-rest split)))
+          (λ e.
+          let other = eqb-false next tableSize e in
+          cases (leb 32 (symbolAt next))
+          (λ h.
+          let terminal = leb-true 32 (symbolAt next) h in
+          rw (e, h)
+          (lists next (s .depth)
+          (record {
+            done = next-done other;
+            unlisted = next-is other .1;
+            behind = λ q m. absurd (terminal-no-premise ρs reasons _ terminal q m);
+          })
+          (comes-after other) (λ q m same. omega (arith, chain-link (u .chain) q m .1, ap symbolAt same)) (u .chain)))
+          (λ h. rw (e, h) (moves-down other (leb-false 32 (symbolAt next) h)))))
+
+      -- the rest of the way lists the last place, among others
+      one-more : length (u .way .places) < length (final .places)
+      one-more =
+          let (run, all) = rest-runs (u .way) (λ q m. chain-link (u .chain) q m .0) in
+          run-grows run last (top .unlisted) (all last (rw path-is (List·Memᴰ·head refl)))
+
+      pub may-move : CanMove write ρs reasons s
+      may-move =
           record {
-            long = omega (arith, can .long, run-length (way .run));
-            reasons-long = can .reasons-long;
-            grounded = grounded-kept (way .run) (can .long) g;
-          };
-      deep = deep;
-      bounded = omega (arith, chain-fits (way .chain), path-length path d);
-      top-done = done-kept (way .run) (can .long) (lastOf path d) (last .done);
-      uncounted = uncounted write a g enough (can .long) way deep counted;
-      room = room-for-one write a g enough (can .long) way deep room;
-      deeper = deeper write a g enough (can .long) way deep;
-    }
+            listable = can-now (u .way);
+            deep = deep;
+            bounded = omega (arith, chain-fits (u .chain), path-length (s .path) (s .depth));
+            top-done = done-kept (u .way .run) last (top .done);
+            uncounted =
+                omega (
+                  arith,
+                  u .can .counted,
+                  counted-so-far (u .way),
+                  run-counts (u .way .run),
+                  listing-counts (s .pass .table) last (top .done .within) (run-long (u .way .run)) (top .unlisted),
+                );
+            room = λ w. omega (arith, u .can .room w, one-more, counted-so-far (u .way), out-kept (u .way));
+            deeper = λ within. has-room (λ e. omega arith);
+          }

@@ -1,20 +1,13 @@
 -- The path of a walk, last place first: heights rise along it, so no place stands on it twice, and as all are
 -- variables' it fits its array. Assumes nothing.
-use mathlib.Core.Path.{_≡_, refl, sym, _∙_, ap, ap₂}
-use mathlib.Core.Logic.{⊎-elim}
-use mathlib.Core.Bool.{false}
-use mathlib.Core.List.{Memᴰ·of-map, List, [], _∷_, map, List·Memᴰ, List·Memᴰ·head, List·Memᴰ·tail}
-use mathlib.Core.List.{List·Memᴰ·cases-cons, List·Memᴰ·not-nil}
-use Prim.Native.Nat.{ℕ, zero, suc, _+_, _-_, _≤_, _<_}
-use native.Mathlib.Numerals.{add-one}
-use native.Mathlib.Omega.{arith}
-use lib.Dec.{eqb}
-use lib.ListN.{length, getD, set, length-map}
-use lib.Seq.{getD-set-same, getD-set-other}
+use Rattle.grammar.proofs.Basics.{_≡_, refl, _∙_, ap, ap₂, ⊎-elim, false, List, _∷_, [], List·Memᴰ, List·Memᴰ·head}
+use Rattle.grammar.proofs.Basics.{List·Memᴰ·tail, List·Memᴰ·not-nil, List·Memᴰ·cases-cons, Memᴰ·of-map, ℕ, _<_, _≤_}
+use Rattle.grammar.proofs.Basics.{_+_, suc, _-_, zero, add-one, arith, eqb, length, getD, set, length-map}
+use Rattle.grammar.proofs.Basics.{getD-set-other, getD-set-same}
 use Rattle.grammar.specs.Counting.{NoRepeat}
 use Rattle.grammar.proofs.NoRepeat.{no-repeat-map}
-use Rattle.saturation.specs.Table.{tableSize, reasonsSize, fromState, symbolAt, toState, place, reasonPlace}
-use Rattle.saturation.specs.Table.{reasonState, reasonVariable}
+use Rattle.saturation.specs.Table.{reasonsSize, fromState, symbolAt, toState, place, reasonPlace, reasonState}
+use Rattle.saturation.specs.Table.{reasonVariable}
 use Rattle.saturation.proofs.Tables.Places.{to-state-below, place-of-parts, reason-state-place, reason-variable-place}
 use Rattle.saturation.proofs.Tables.Places.{to-state-reason-place}
 use Rattle.forms.specs.Listing.{isListed}
@@ -39,8 +32,7 @@ module _ {height : ℕ → ℕ} {t now : List ℕ} where
   chain-apart (Chain.link {p = p} a c) =
       (λ m. let low : height p < height p = a .lowest p m in omega arith, chain-apart c)
 
-  pub chain-link :
-      {ps : List ℕ} → Chain height t now ps → (q : ℕ) → List·Memᴰ q ps → DonePlace t q × (symbolAt q < 32)
+  pub chain-link : {ps : List ℕ} → Chain height t now ps → (q : ℕ) → List·Memᴰ q ps → DonePlace t q × (symbolAt q < 32)
   chain-link Chain.end q m = absurd (List·Memᴰ·not-nil m)
   chain-link (Chain.link a c) q m =
       ⊎-elim (λ e. rw e (a .done, a .is-variable)) (λ m'. chain-link c q m') (List·Memᴰ·cases-cons m)
@@ -52,8 +44,7 @@ module _ {height : ℕ → ℕ} {t now : List ℕ} where
   chain-rest (Chain.link a c) = c
 
   -- another place's mark leaves the path as it is
-  pub chain-kept :
-      (x : ℕ) {ps : List ℕ} → ((q : ℕ) → List·Memᴰ q ps → q ≡ x → ⊥) → Chain height t now ps →
+  pub chain-kept : (x : ℕ) {ps : List ℕ} → ((q : ℕ) → List·Memᴰ q ps → q ≡ x → ⊥) → Chain height t now ps →
       Chain height t (set now x 3) ps
   chain-kept x other Chain.end = Chain.end
   chain-kept x other (Chain.link {p = p} a c) =
@@ -71,10 +62,9 @@ module _ {height : ℕ → ℕ} {t now : List ℕ} where
   chain-fits {ps} c =
       omega (
         arith,
-        no-more-than
-            reasonsSize
-            (map at ps)
-            (no-repeat-map at ps (λ p q m k e. same p q (chain-link c p m) (chain-link c q k) e) (chain-apart c))
+        no-more-than reasonsSize _
+            (no-repeat-map at ps
+            (λ p q m k e. rw (back p (chain-link c p m), back q (chain-link c q k)) at (ap from e)) (chain-apart c))
             (λ i m. let (p, k, e) = Memᴰ·of-map at ps m in rw (← e) (inside p (chain-link c p k))),
         length-map ps at,
       )
@@ -85,19 +75,11 @@ module _ {height : ℕ → ℕ} {t now : List ℕ} where
       from : ℕ → ℕ
       from r = place (reasonState r) (reasonVariable r) (toState r)
 
-      back : (p : ℕ) → p < tableSize → symbolAt p < 32 → p ≡ from (at p)
-      back p h v =
-          let q : ℕ = fromState p in
-          let A : ℕ = symbolAt p in
-          let r : ℕ = toState p in
-          sym (place-of-parts p h)
-          ∙ ap (λ z. place z A r) (sym (reason-state-place q A r v (to-state-below p)))
-          ∙ ap (λ z. place (reasonState (at p)) z r) (sym (reason-variable-place q A r v (to-state-below p)))
-          ∙ ap (λ z. place (reasonState (at p)) (reasonVariable (at p)) z)
-          (sym (to-state-reason-place q A r (to-state-below p)))
-
-      same : (p q : ℕ) → DonePlace t p × (symbolAt p < 32) → DonePlace t q × (symbolAt q < 32) → at p ≡ at q → p ≡ q
-      same p q a b e = back p (a .0 .within) (a .1) ∙ ap from e ∙ sym (back q (b .0 .within) (b .1))
+      back : (p : ℕ) → DonePlace t p × (symbolAt p < 32) → from (at p) ≡ p
+      back p d =
+          let v : symbolAt p < 32 = d .1 in
+          let below = to-state-below p in
+          rw (reason-state-place, reason-variable-place, to-state-reason-place) (place-of-parts p (d .0 .within))
 
       inside : (p : ℕ) → DonePlace t p × (symbolAt p < 32) → at p < reasonsSize
       inside p d = omega arith

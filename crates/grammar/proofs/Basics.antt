@@ -1,8 +1,25 @@
 -- Small laws of tests, pairs and sums that every crate needs: case analysis on a test that keeps the equation.
 -- Assumes nothing.
-use mathlib.Core.Path.{_≡_, refl, sym, _∙_}
-use mathlib.Core.Logic.{_⊎_, inl, inr, _↔_}
-use mathlib.Core.Bool.{Bool, true, false, _&&_, _||_, true≢false, false≢true}
+pub use mathlib.Core.Path.{_≡_, refl, _∙_, sym, ap, ap₂, subst}
+pub use mathlib.Core.Logic.{⊎-elim, _↔_, inl, inr, _⊎_, Iff·symm, Iff·trans}
+pub use mathlib.Core.Bool.{true, false, Bool, _&&_, cond, _||_, not, false≢true, or-false, and-true, or-true, or-assoc}
+pub use mathlib.Core.Bool.{and-false, true≢false}
+pub use mathlib.Core.List.{List, _∷_, [], List·Memᴰ, _++_, List·Memᴰ·head, List·Memᴰ·tail, List·Memᴰ·not-nil}
+pub use mathlib.Core.List.{List·Memᴰ·cases-cons, map, List·Memᴰ·eq-of-singleton, append-nil, Memᴰ·cast, append-assoc}
+pub use mathlib.Core.List.{List·Memᴰ·append-cases, List·Permᴰ, Memᴰ·append-left, Memᴰ·of-map, Permᴰ·symm}
+pub use mathlib.Core.List.{Memᴰ·append-right}
+pub use Prim.Native.Nat.{ℕ, _<_, _≤_, _+_, suc, _-_, zero, _*_, _/_, _%_, min, suc-le-suc}
+pub use native.Mathlib.Nat.{add-zero, le-of-lt, le-refl, eq-or-lt-of-le, zero-add, suc-add}
+pub use native.Mathlib.Numerals.{add-one}
+pub use native.Mathlib.Omega.{arith}
+pub use lib.Dec.{eqb, ltb, leb}
+pub use lib.ListN.{length, getD, take, set, drop, length-set, length-map, length-append, drop-of-length-le}
+pub use lib.ListN.{length-take, length-drop, replicate, List·getD-map}
+pub use lib.Seq.{getD-set-other, drop-cons, length-take-le, getD-take, getD-set-same, take-suc, drop-length, ext-getD}
+pub use lib.Seq.{take-at, sets}
+pub use borrow.Author.Tests.{eq-eqb, ne-eqb, eqb-true, eqb-false, ltb-false, ltb-true, le-leb, lt-ltb, leb-true}
+pub use borrow.Author.Tests.{leb-false, lt-leb, le-ltb, not-true, not-false}
+pub use borrow.Author.Needs.{needs}
 
 -- a proof by the two values of a test
 pub cases : {P : Type 0} (b : Bool) → (b ≡ true → P) → (b ≡ false → P) → P
@@ -47,10 +64,6 @@ and-both false b p q = p
 pub and-split : (a b : Bool) → ((a && b) ≡ true) ↔ ((a ≡ true) × (b ≡ true))
 and-split a b = (λ e. (and-left a b e, and-right a b e), λ p. and-both a b (p .0) (p .1))
 
-pub and-false-left : (a b : Bool) → a ≡ false → (a && b) ≡ false
-and-false-left true b p = absurd (true≢false p)
-and-false-left false b p = refl
-
 pub and-false-right : (a b : Bool) → b ≡ false → (a && b) ≡ false
 and-false-right true b p = p
 and-false-right false b p = refl
@@ -66,3 +79,19 @@ or-left false b p = absurd (false≢true p)
 pub or-right : (a b : Bool) → b ≡ true → (a || b) ≡ true
 or-right true b p = refl
 or-right false b p = p
+
+pub or-exact : (a b : Bool) → ((a || b) ≡ true) ↔ ((a ≡ true) ⊎ (b ≡ true))
+or-exact a b = (or-split a b, ⊎-elim (or-left a b) (or-right a b))
+
+-- what the tests of two numbers decide
+pub eqb-exact : (a b : ℕ) → (eqb a b ≡ true) ↔ (a ≡ b)
+eqb-exact a b = (eqb-true a b, eq-eqb a b)
+
+pub ltb-exact : (a b : ℕ) → (ltb a b ≡ true) ↔ (a < b)
+ltb-exact a b = (ltb-true a b, lt-ltb a b)
+
+pub leb-exact : (a b : ℕ) → (leb a b ≡ true) ↔ (a ≤ b)
+leb-exact a b = (leb-true a b, le-leb a b)
+
+-- `simp decided at h` takes a joined test apart into what its parts decide
+pub ruleset decided = (and-split, eqb-exact, ltb-exact, leb-exact)

@@ -1,74 +1,62 @@
--- A certificate of the smallest closed set: its transitions, each with the way in which it comes in, premises later in
--- the list. Sound, since each line is justified by later ones; complete, since nothing that the rules ask for is
--- missing. Assumes nothing.
-use mathlib.Core.Path.{_≡_, refl, sym, subst}
-use mathlib.Core.Logic.{⊎-elim, _↔_}
-use mathlib.Core.Bool.{Bool, true, _&&_}
-use mathlib.Core.List.{List, [], _∷_, map, List·Memᴰ, List·Memᴰ·cases-cons, List·Memᴰ·not-nil}
-use Prim.Native.Nat.{ℕ}
-use lib.Dec.{eqb, ltb}
-use borrow.Author.Tests.{eqb-true, eq-eqb, ltb-true}
-use Rattle.grammar.specs.Rule.{Rule, Among, empty, unit, pair}
-use Rattle.grammar.specs.Automaton.{Transitions}
+-- A certificate of the smallest closed set: its transitions, each after those that it comes from. Sound, since each is
+-- given or comes by a rule from those before it; complete, since the list is closed under the rules: no body leads to
+-- where the head is missing. Assumes nothing.
+use Rattle.grammar.proofs.Basics.{_≡_, refl, ⊎-elim, _↔_, true, Bool, _&&_, _||_, not, List, _∷_, [], List·Memᴰ}
+use Rattle.grammar.proofs.Basics.{Memᴰ·cast, ℕ, _<_, eqb, ltb, eqb-true, not-true, true-and-false}
+use Rattle.grammar.proofs.Basics.{not-false-true, or-exact, decided}
+use mathlib.Core.Path.{subst₂}
+use Rattle.grammar.specs.Rule.{Rule, Among, head, body}
+use Rattle.grammar.specs.Automaton.{Transitions, Path, here, along}
 use Rattle.grammar.specs.Closure.{Closure}
 use Rattle.grammar.specs.Theorems.Examples.{TransitionsOf}
-use Rattle.grammar.proofs.Basics.{and-left, and-right, and-both}
-use Rattle.grammar.proofs.CertificateTests.{Triple, every, every-member, every-below, every-below-member}
-use Rattle.grammar.proofs.CertificateTests.{implies, implies-true, has, has-member, hasRule, has-rule-member}
+use Rattle.grammar.proofs.Paths.{path-grows}
+use Rattle.grammar.proofs.Smallest.{closure-closed, closure-least}
+use Rattle.grammar.proofs.CertificateTests.{Triple, every, every-member, every-below, every-below-member, some}
+use Rattle.grammar.proofs.CertificateTests.{some-member, member-some, has, has-exact, grounded, grounded-sound}
 
--- how a transition (q, A, r) comes in: given; by A → ε; by A → X; by A → X Y with a middle state m
-pub data Way : Type 0 where
-  given : Way
-  by-empty : Way
-  by-unit : (X : ℕ) → Way
-  by-pair : (X m Y : ℕ) → Way
+-- the string leads from q to a state that passes
+unfoldable pub finishes : List Triple → (ℕ → Bool) → List ℕ → ℕ → Bool
+unfolding some
+finishes ts final [] q = final q
+finishes ts final (X ∷ w) q =
+    some (λ a. let rest : Bool = finishes ts final w (a .2) in eqb q (a .0) && eqb X (a .1) && rest) ts
 
--- a line of the certificate: a transition and its way
-abbrev pub Line : Type 0
-Line = Triple × Way
+module _ (ts : List Triple) (final : ℕ → Bool) where
+  pub finishes-path : (w : List ℕ) (q : ℕ) → finishes ts final w q ≡ true →
+      (r : ℕ) × Path (TransitionsOf ts) q w r × (final r ≡ true)
+  unfolding finishes
+  finishes-path [] q e = (q, here, e)
+  finishes-path (X ∷ w) q e =
+      let (a, m, both) = some-member _ ts e in
+      let ((from, symbol), rest) = simp decided at both in
+      let (r, p, f) = finishes-path w (a .2) rest in
+      (r, along (Memᴰ·cast (λ i. (from i, symbol i, a .2)) m) p, f)
 
-abbrev pub transition : Line → Triple
-transition l = l .0
+  pub path-finishes :
+      {q r : ℕ} {w : List ℕ} → Path (TransitionsOf ts) q w r → final r ≡ true → finishes ts final w q ≡ true
+  unfolding finishes
+  path-finishes here e = e
+  path-finishes (along t p) e = member-some _ t (simp decided ((refl, refl), path-finishes p e))
 
--- the transitions of a certificate
-abbrev pub transitions : List Line → List Triple
-transitions ls = map transition ls
+-- (q, A, r) is given, or a rule with the head A leads from q to r by those before
+abbrev pub comesIn : (rs : List Rule) (gs : List Triple) (s : ℕ) (before : List Triple) → Triple → Bool
+comesIn rs gs s before a =
+    let by : Rule → Bool =
+    λ ρ. let leads : Bool = finishes before (λ r. eqb r (a .2)) (body ρ) (a .0) in eqb (head ρ) (a .1) && leads in
+    has gs (a .0) (a .1) (a .2) || (ltb (a .0) s && some by rs)
 
--- (q, A, r) comes in by the way, given the transitions ts
-abbrev pub justified : (rs : List Rule) (gs : List Triple) (s : ℕ) (ts : List Triple) (q A r : ℕ) → Way → Bool
-justified rs gs s ts q A r given = has gs q A r
-justified rs gs s ts q A r by-empty = hasRule rs (empty A) && (ltb q s && eqb q r)
-justified rs gs s ts q A r (by-unit X) = hasRule rs (unit A X) && has ts q X r
-justified rs gs s ts q A r (by-pair X m Y) = hasRule rs (pair A X Y) && (has ts q X m && has ts m Y r)
-
--- each line is justified by the later ones
-unfoldable pub grounded : (rs : List Rule) (gs : List Triple) (s : ℕ) → List Line → Bool
-unfolding has hasRule
-grounded rs gs s [] = true
-grounded rs gs s (l ∷ ls) =
-    justified rs gs s (transitions ls) (l .0 .0) (l .0 .1) (l .0 .2) (l .1) && grounded rs gs s ls
-
--- what a rule asks for is there
+-- from no state the body leads to where the head is missing
 abbrev pub satisfied : (s : ℕ) (ts : List Triple) → Rule → Bool
-satisfied s ts (empty A) = every-below (λ q. has ts q A q) s
-satisfied s ts (unit A X) = every (λ a. let there : Bool = has ts (a .0) A (a .2) in implies (eqb (a .1) X) there) ts
-satisfied s ts (pair A X Y) =
-    every
-    (λ a.
-    let there : Bool =
-    every (λ b. let there : Bool = has ts (a .0) A (b .2) in implies (eqb (b .0) (a .2) && eqb (b .1) Y) there) ts
-    in
-    implies (eqb (a .1) X) there)
-    ts
+satisfied s ts ρ = every-below (λ q. not (finishes ts (λ r. not (has ts q (head ρ) r)) (body ρ) q)) s
 
--- the given ones are there, and all that the rules ask for
-abbrev pub saturated : (rs : List Rule) (gs : List Triple) (s : ℕ) (ts : List Triple) → Bool
-saturated rs gs s ts = every (λ a. has ts (a .0) (a .1) (a .2)) gs && every (satisfied s ts) rs
+-- the given ones have states below s and are there
+abbrev pub holdsGiven : (gs : List Triple) (s : ℕ) (ts : List Triple) → Bool
+holdsGiven gs s ts = every (λ a. ltb (a .0) s && ltb (a .2) s && has ts (a .0) (a .1) (a .2)) gs
 
 -- the whole test of a certificate
-unfoldable pub certified : (rs : List Rule) (gs : List Triple) (s : ℕ) → List Line → Bool
-unfolding has every every-below grounded
-certified rs gs s ls = grounded rs gs s ls && saturated rs gs s (transitions ls)
+unfoldable pub certified : (rs : List Rule) (gs : List Triple) (s : ℕ) → List Triple → Bool
+unfolding has every every-below grounded finishes
+certified rs gs s ts = grounded (comesIn rs gs s) [] ts && holdsGiven gs s ts && every (satisfied s ts) rs
 
 -- the given transitions are those of the list
 pub record ListedBy (D : Transitions) (gs : List Triple) : Type 0 where
@@ -78,124 +66,42 @@ pub record ListedBy (D : Transitions) (gs : List Triple) : Type 0 where
 pub itself : (gs : List Triple) → ListedBy (TransitionsOf gs) gs
 itself gs = record { listed = λ q X r m. m; meant = λ q X r m. m }
 
-module _ (rs : List Rule) (D : Transitions) (gs : List Triple) (s : ℕ) (g : ListedBy D gs) where
-  justified-sound :
-      (ts : List Triple) → ((q X r : ℕ) → has ts q X r ≡ true → Closure (Among rs) D s q X r) → (q A r : ℕ) (w : Way) →
-      justified rs gs s ts q A r w ≡ true → Closure (Among rs) D s q A r
-  justified-sound ts ih q A r given h = Closure.given (g .meant q A r (has-member h))
-  justified-sound ts ih q A r by-empty h =
-      let rest : (ltb q s && eqb q r) ≡ true = and-right (hasRule rs (empty A)) (ltb q s && eqb q r) h in
-      subst
-      (λ z. Closure (Among rs) D s q A z)
-      (eqb-true q r (and-right (ltb q s) (eqb q r) rest))
-      (Closure.by-empty
-      (has-rule-member (and-left (hasRule rs (empty A)) (ltb q s && eqb q r) h))
-      (ltb-true q s (and-left (ltb q s) (eqb q r) rest)))
-  justified-sound ts ih q A r (by-unit X) h =
-      Closure.by-unit
-      (has-rule-member (and-left (hasRule rs (unit A X)) (has ts q X r) h))
-      (ih q X r (and-right (hasRule rs (unit A X)) (has ts q X r) h))
-  justified-sound ts ih q A r (by-pair X m Y) h =
-      let rest : (has ts q X m && has ts m Y r) ≡ true =
-      and-right (hasRule rs (pair A X Y)) (has ts q X m && has ts m Y r) h
-      in
-      Closure.by-pair
-      (has-rule-member (and-left (hasRule rs (pair A X Y)) (has ts q X m && has ts m Y r) h))
-      (ih q X m (and-left (has ts q X m) (has ts m Y r) rest))
-      (ih m Y r (and-right (has ts q X m) (has ts m Y r) rest))
+-- a certified list is exactly the smallest closed set
+pub certified-closure :
+    (rs : List Rule) (D : Transitions) (gs : List Triple) (s : ℕ) → ListedBy D gs → (ts : List Triple) →
+    certified rs gs s ts ≡ true → (q X r : ℕ) → TransitionsOf ts q X r ↔ Closure (Among rs) D s q X r
+unfolding certified
+certified-closure rs D gs s g ts h q X r =
+    let ((sound, given), closed) = simp decided at h in
+    let at-given : (q X r : ℕ) → D q X r → ((q < s) × (r < s)) × TransitionsOf ts q X r =
+    λ q X r d. simp (decided, has-exact) at (every-member _ given (g .listed q X r d))
+    in (
+      grounded-sound (λ a. Closure (Among rs) D s (a .0) (a .1) (a .2)) (comesIn rs gs s) comes-in ts sound (q, X, r),
+      closure-least (λ q X r d. at-given q X r d .0)
+          (record {
+            given = λ q X r d. at-given q X r d .1;
+            saturated = λ ρ q r m l. saturated ρ (every-below-member _ s q (every-member _ closed m) l);
+          })
+          q X r,
+    )
+  where
+    comes-in :
+        (before : List Triple) → ((a : Triple) → List·Memᴰ a before → Closure (Among rs) D s (a .0) (a .1) (a .2)) →
+        (a : Triple) → comesIn rs gs s before a ≡ true → Closure (Among rs) D s (a .0) (a .1) (a .2)
+    comes-in before known a e =
+        ⊎-elim
+        (λ e. Closure.given (g .meant (a .0) (a .1) (a .2) (simp has-exact at e)))
+        (λ e.
+        let (l, by) = simp decided at e in
+        let (ρ, m, both) = some-member _ rs by in
+        let (same, leads) = simp decided at both in
+        let (r, p, end) = finishes-path before _ (body ρ) (a .0) leads in
+        subst₂ (Closure (Among rs) D s (a .0)) same (eqb-true r (a .2) end)
+        (closure-closed .saturated ρ (a .0) r m l (path-grows (λ q X r. known (q, X, r)) p)))
+        (simp or-exact at e)
 
-  member-sound : (ls : List Line) → grounded rs gs s ls ≡ true → (a : Triple) → List·Memᴰ a (transitions ls) →
-      Closure (Among rs) D s (a .0) (a .1) (a .2)
-  unfolding grounded
-  member-sound [] h a m = absurd (List·Memᴰ·not-nil m)
-  member-sound (l ∷ ls) h a m =
-      let first : Bool = justified rs gs s (transitions ls) (l .0 .0) (l .0 .1) (l .0 .2) (l .1) in
-      let later : (b : Triple) → List·Memᴰ b (transitions ls) → Closure (Among rs) D s (b .0) (b .1) (b .2) =
-      member-sound ls (and-right first (grounded rs gs s ls) h)
-      in
-      ⊎-elim
-      (λ e.
-      subst
-      (λ b. Closure (Among rs) D s (b .0) (b .1) (b .2))
-      (sym e)
-      (justified-sound
-      (transitions ls)
-      (λ q X r p. later (q, X, r) (has-member p))
-      (l .0 .0)
-      (l .0 .1)
-      (l .0 .2)
-      (l .1)
-      (and-left first (grounded rs gs s ls) h)))
-      (later a)
-      (List·Memᴰ·cases-cons m)
-
-  -- what the certificate lists is in the smallest closed set
-  pub grounded-sound :
-      (ls : List Line) → grounded rs gs s ls ≡ true → (q X r : ℕ) → has (transitions ls) q X r ≡ true →
-      Closure (Among rs) D s q X r
-  grounded-sound ls h q X r p = member-sound ls h (q, X, r) (has-member p)
-
-  satisfied-unit :
-      (ts : List Triple) (A X q r : ℕ) → satisfied s ts (unit A X) ≡ true → has ts q X r ≡ true → has ts q A r ≡ true
-  satisfied-unit ts A X q r h p =
-      implies-true
-      (eqb X X)
-      (has ts q A r)
-      (every-member (λ a. implies (eqb (a .1) X) (has ts (a .0) A (a .2))) h (has-member p))
-      (eq-eqb X X refl)
-
-  satisfied-pair :
-      (ts : List Triple) (A X Y q m r : ℕ) → satisfied s ts (pair A X Y) ≡ true → has ts q X m ≡ true →
-      has ts m Y r ≡ true →
-      has ts q A r ≡ true
-  satisfied-pair ts A X Y q m r h p p' =
-      let from : Triple → Triple → Bool =
-      λ a b. implies (eqb (b .0) (a .2) && eqb (b .1) Y) (has ts (a .0) A (b .2))
-      in
-      let firsts : every (from (q, X, m)) ts ≡ true =
-      implies-true
-      (eqb X X)
-      (every (from (q, X, m)) ts)
-      (every-member (λ a. implies (eqb (a .1) X) (every (from a) ts)) h (has-member p))
-      (eq-eqb X X refl)
-      in
-      implies-true
-      (eqb m m && eqb Y Y)
-      (has ts q A r)
-      (every-member (from (q, X, m)) firsts (has-member p'))
-      (and-both (eqb m m) (eqb Y Y) (eq-eqb m m refl) (eq-eqb Y Y refl))
-
-  saturated-rule :
-      (ts : List Triple) (ρ : Rule) → saturated rs gs s ts ≡ true → List·Memᴰ ρ rs → satisfied s ts ρ ≡ true
-  saturated-rule ts ρ h m =
-      every-member
-      (satisfied s ts)
-      (and-right (every (λ a. has ts (a .0) (a .1) (a .2)) gs) (every (satisfied s ts) rs) h)
-      m
-
-  -- what is in the smallest closed set is in a list with all that the rules ask for
-  pub saturated-complete :
-      (ts : List Triple) → saturated rs gs s ts ≡ true → {q X r : ℕ} → Closure (Among rs) D s q X r →
-      has ts q X r ≡ true
-  saturated-complete ts h (Closure.given {q = q} {X = X} {r = r} d) =
-      every-member
-      (λ a. has ts (a .0) (a .1) (a .2))
-      (and-left (every (λ a. has ts (a .0) (a .1) (a .2)) gs) (every (satisfied s ts) rs) h)
-      (g .listed q X r d)
-  saturated-complete ts h (Closure.by-empty {A = A} {q = q} m l) =
-      every-below-member (λ q. has ts q A q) s q (saturated-rule ts (empty A) h m) l
-  saturated-complete ts h (Closure.by-unit {A = A} {X = X} {q = q} {r = r} m c) =
-      satisfied-unit ts A X q r (saturated-rule ts (unit A X) h m) (saturated-complete ts h c)
-  saturated-complete ts h (Closure.by-pair {A = A} {X = X} {Y = Y} {q = q} {m = k} {r = r} m c d) =
-      satisfied-pair ts A X Y q k r (saturated-rule ts (pair A X Y) h m) (saturated-complete ts h c)
-      (saturated-complete ts h d)
-
-  -- a certified list is exactly the smallest closed set
-  pub certified-closure : (ls : List Line) → certified rs gs s ls ≡ true → (q X r : ℕ) →
-      (has (transitions ls) q X r ≡ true) ↔ Closure (Among rs) D s q X r
-  unfolding certified
-  certified-closure ls h q X r = (
-    grounded-sound ls (and-left (grounded rs gs s ls) (saturated rs gs s (transitions ls)) h) q X r,
-    λ c. saturated-complete (transitions ls) (and-right (grounded rs gs s ls) (saturated rs gs s (transitions ls)) h)
-        c,
-  )
+    saturated : (ρ : Rule) {q r : ℕ} → not (finishes ts (λ r. not (has ts q (head ρ) r)) (body ρ) q) ≡ true →
+        Path (TransitionsOf ts) q (body ρ) r → TransitionsOf ts q (head ρ) r
+    saturated ρ {q} {r} none p =
+        has-exact ts q (head ρ) r .0
+        (not-false-true (has ts q (head ρ) r) (λ e. true-and-false (path-finishes ts _ p (rw e)) (not-true _ none)))

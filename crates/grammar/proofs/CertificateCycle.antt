@@ -1,20 +1,17 @@
 -- Certificates that a grammar has a cycle through a pair rule, by the cycle, and that it has none, by a rank of the
 -- symbols that no useful rule raises and each useful pair rule lowers. Both over a test of the useful symbols.
 -- Assumes nothing.
-use mathlib.Core.Path.{_≡_, refl, sym, subst}
-use mathlib.Core.Logic.{inl, inr, ⊎-elim}
-use mathlib.Core.Bool.{Bool, true, false, _&&_, _||_, false≢true}
-use mathlib.Core.List.{List, [], _∷_}
-use Prim.Native.Nat.{ℕ, _≤_, _<_}
-use native.Mathlib.Omega.{arith}
-use lib.Dec.{eqb, leb, ltb}
-use borrow.Author.Tests.{eqb-true, leb-true, ltb-true}
+use Rattle.grammar.proofs.Basics.{_≡_, refl, ⊎-elim, inl, inr, true, false, Bool, _&&_, false≢true, List, _∷_}
+use Rattle.grammar.proofs.Basics.{[], List·Memᴰ, List·Memᴰ·head, List·Memᴰ·tail, List·Memᴰ·cases-cons}
+use Rattle.grammar.proofs.Basics.{List·Memᴰ·eq-of-singleton, ℕ, _≤_, arith, eqb, ltb, leb, eqb-true, and-split}
+use Rattle.grammar.proofs.Basics.{decided}
 use Rattle.grammar.specs.Rule.{Rule, Rules, Among, head, body, empty, unit, pair}
 use Rattle.grammar.specs.Useful.{Useful}
 use Rattle.grammar.specs.Growing.{AllUseful, UsefulRules}
 use Rattle.grammar.specs.Theorems.Inductive.{Leads, PairCycle}
-use Rattle.grammar.proofs.Basics.{and-left, and-right, and-both, or-split}
-use Rattle.grammar.proofs.CertificateTests.{every, every-member, some, some-member, implies, implies-true}
+use Rattle.grammar.proofs.Growth.{leads-trans}
+use Rattle.grammar.proofs.CertificateTests.{every, every-member, some, some-member, implies, implies-exact}
+use Rattle.grammar.proofs.CertificateTests.{hasSymbol, has-symbol-exact}
 
 -- all symbols of the rule pass
 abbrev pub allPass : (ℕ → Bool) → Rule → Bool
@@ -32,9 +29,7 @@ certifiedRank u rs rank = every (λ ρ. implies (allPass u ρ) (lowers rank ρ))
 
 -- yes: the rule leads from X to Z; and so does a pair rule
 abbrev pub leads : (X Z : ℕ) → Rule → Bool
-leads X Z (empty A) = false
-leads X Z (unit A Y) = eqb A X && eqb Y Z
-leads X Z (pair A Y W) = eqb A X && (eqb Y Z || eqb W Z)
+leads X Z ρ = eqb X (head ρ) && hasSymbol (body ρ) Z
 
 abbrev pub pairLeads : (X Z : ℕ) → Rule → Bool
 pairLeads X Z (empty A) = false
@@ -43,63 +38,38 @@ pairLeads X Z (pair A Y W) = leads X Z (pair A Y W)
 
 -- by useful rules from X over the symbols of the list to A
 unfoldable pub leadsBy : (u : ℕ → Bool) (rs : List Rule) (X : ℕ) → List ℕ → (A : ℕ) → Bool
-unfolding every some
+unfolding every some hasSymbol
 leadsBy u rs X [] A = eqb X A
 leadsBy u rs X (Z ∷ zs) A = some (λ ρ. allPass u ρ && leads X Z ρ) rs && leadsBy u rs Z zs A
 
 -- by a useful pair rule from A to X, and over the list back to A
 unfoldable pub certifiedCycle : (u : ℕ → Bool) (rs : List Rule) (A X : ℕ) → List ℕ → Bool
-unfolding every some leadsBy
+unfolding every some hasSymbol leadsBy
 certifiedCycle u rs A X zs = some (λ ρ. allPass u ρ && pairLeads A X ρ) rs && leadsBy u rs X zs A
 
-module _ (u : ℕ → Bool) (rs : List Rule) (S : ℕ) (complete : (X : ℕ) → Useful (Among rs) S X → u X ≡ true) where
+module _ (u : ℕ → Bool) (rs : List Rule) (S : ℕ) (complete : (X : ℕ) → Useful (Among rs) S X → u X ≡ true)
+    (rank : ℕ → ℕ) (h : certifiedRank u rs rank ≡ true) where
   all-useful-pass : (α : List ℕ) → AllUseful (Among rs) S α → every u α ≡ true
   unfolding AllUseful every
   all-useful-pass [] a = refl
-  all-useful-pass (X ∷ α) a = and-both (u X) (every u α) (complete X (a .0)) (all-useful-pass α (a .1))
+  all-useful-pass (X ∷ α) a = simp and-split (complete X (a .0), all-useful-pass α (a .1))
 
-  ranked :
-      (rank : ℕ → ℕ) → certifiedRank u rs rank ≡ true → (ρ : Rule) → UsefulRules (Among rs) S ρ → lowers rank ρ ≡ true
+  ranked : (ρ : Rule) → UsefulRules (Among rs) S ρ → lowers rank ρ ≡ true
   unfolding certifiedRank
-  ranked rank h ρ r =
-      implies-true
-      (allPass u ρ)
-      (lowers rank ρ)
-      (every-member (λ ρ. implies (allPass u ρ) (lowers rank ρ)) h (r .0))
-      (all-useful-pass (head ρ ∷ body ρ) (r .1))
+  ranked ρ r = (simp implies-exact at (every-member _ h (r .0))) (all-useful-pass (head ρ ∷ body ρ) (r .1))
 
-  leads-down :
-      (rank : ℕ → ℕ) → certifiedRank u rs rank ≡ true → {A Z : ℕ} → Leads (UsefulRules (Among rs) S) A Z →
-      rank Z ≤ rank A
-  leads-down rank h Leads.here = omega arith
-  leads-down rank h (Leads.by-unit {A = A} {X = X} r l) =
-      let step : rank X ≤ rank A = leb-true (rank X) (rank A) (ranked rank h (unit A X) r) in
-      omega (arith, leads-down rank h l)
-  leads-down rank h (Leads.by-left {A = A} {X = X} {Y = Y} r l) =
-      let step : rank X < rank A =
-      ltb-true (rank X) (rank A)
-      (and-left (ltb (rank X) (rank A)) (ltb (rank Y) (rank A)) (ranked rank h (pair A X Y) r))
-      in
-      omega (arith, leads-down rank h l)
-  leads-down rank h (Leads.by-right {A = A} {X = X} {Y = Y} r l) =
-      let step : rank Y < rank A =
-      ltb-true (rank Y) (rank A)
-      (and-right (ltb (rank X) (rank A)) (ltb (rank Y) (rank A)) (ranked rank h (pair A X Y) r))
-      in
-      omega (arith, leads-down rank h l)
+  leads-down : {A Z : ℕ} → Leads (UsefulRules (Among rs) S) A Z → rank Z ≤ rank A
+  leads-down Leads.here = omega arith
+  leads-down (Leads.by-unit r l) = omega (arith, simp decided at (ranked (unit _ _) r), leads-down l)
+  leads-down (Leads.by-left r l) = omega (arith, simp decided at (ranked (pair _ _ _) r), leads-down l)
+  leads-down (Leads.by-right r l) = omega (arith, simp decided at (ranked (pair _ _ _) r), leads-down l)
 
   -- a certified rank excludes a cycle through a pair rule
-  pub certified-no-cycle : (rank : ℕ → ℕ) → certifiedRank u rs rank ≡ true → PairCycle (Among rs) S → ⊥
-  certified-no-cycle rank h c =
+  pub certified-no-cycle : PairCycle (Among rs) S → ⊥
+  certified-no-cycle c =
       let (A, X, Y, r, back) = c in
-      let low : (ltb (rank X) (rank A) && ltb (rank Y) (rank A)) ≡ true = ranked rank h (pair A X Y) r in
-      let left : rank X < rank A =
-      ltb-true (rank X) (rank A) (and-left (ltb (rank X) (rank A)) (ltb (rank Y) (rank A)) low)
-      in
-      let right : rank Y < rank A =
-      ltb-true (rank Y) (rank A) (and-right (ltb (rank X) (rank A)) (ltb (rank Y) (rank A)) low)
-      in
-      ⊎-elim (λ l. omega (arith, leads-down rank h l)) (λ l. omega (arith, leads-down rank h l)) back
+      let low = simp decided at (ranked (pair A X Y) r) in
+      ⊎-elim (λ l. omega (arith, leads-down l)) (λ l. omega (arith, leads-down l)) back
 
 module _ (u : ℕ → Bool) (rs : List Rule) (S : ℕ) (sound : (X : ℕ) → u X ≡ true → Useful (Among rs) S X) where
   abbrev UR : Rules
@@ -108,59 +78,48 @@ module _ (u : ℕ → Bool) (rs : List Rule) (S : ℕ) (sound : (X : ℕ) → u 
   pass-all-useful : (α : List ℕ) → every u α ≡ true → AllUseful (Among rs) S α
   unfolding AllUseful every
   pass-all-useful [] h = tt
-  pass-all-useful (X ∷ α) h =
-      (sound X (and-left (u X) (every u α) h), pass-all-useful α (and-right (u X) (every u α) h))
+  pass-all-useful (X ∷ α) h = let (x, xs) = simp and-split at h in (sound X x, pass-all-useful α xs)
 
-  leads-on : (ρ : Rule) → UR ρ → (X Z A : ℕ) → leads X Z ρ ≡ true → Leads UR Z A → Leads UR X A
-  leads-on (empty B) r X Z A h l = absurd (false≢true h)
-  leads-on (unit B Y) r X Z A h l =
-      subst
-      (λ z. Leads UR z A)
-      (eqb-true B X (and-left (eqb B X) (eqb Y Z) h))
-      (Leads.by-unit r (subst (λ z. Leads UR z A) (sym (eqb-true Y Z (and-right (eqb B X) (eqb Y Z) h))) l))
-  leads-on (pair B Y W) r X Z A h l =
-      subst
-      (λ z. Leads UR z A)
-      (eqb-true B X (and-left (eqb B X) (eqb Y Z || eqb W Z) h))
-      (⊎-elim
-      (λ e. Leads.by-left r (subst (λ z. Leads UR z A) (sym (eqb-true Y Z e)) l))
-      (λ e. Leads.by-right r (subst (λ z. Leads UR z A) (sym (eqb-true W Z e)) l))
-      (or-split (eqb Y Z) (eqb W Z) (and-right (eqb B X) (eqb Y Z || eqb W Z) h)))
+  rule-leads : (ρ : Rule) {Z : ℕ} → UR ρ → List·Memᴰ Z (body ρ) → Leads UR (head ρ) Z
+  rule-leads (unit A Y) r (List·Memᴰ·head e) = rw e (Leads.by-unit r Leads.here)
+  rule-leads (pair A Y W) r (List·Memᴰ·head e) = rw e (Leads.by-left r Leads.here)
+  rule-leads (pair A Y W) r (List·Memᴰ·tail (List·Memᴰ·head e)) = rw e (Leads.by-right r Leads.here)
 
   -- the rule of a step, which is useful
   rule-of : (f : Rule → Bool) → some (λ ρ. allPass u ρ && f ρ) rs ≡ true → (ρ : Rule) × UR ρ × (f ρ ≡ true)
   rule-of f h =
-      let (ρ, m, p) = some-member (λ ρ. allPass u ρ && f ρ) rs h in
-      (ρ, (m, pass-all-useful (head ρ ∷ body ρ) (and-left (allPass u ρ) (f ρ) p)), and-right (allPass u ρ) (f ρ) p)
+      let (ρ, m, p) = some-member _ rs h in
+      let (pass, fits) = simp and-split at p in
+      (ρ, (m, pass-all-useful (head ρ ∷ body ρ) pass), fits)
 
   leads-by : (X : ℕ) (zs : List ℕ) (A : ℕ) → leadsBy u rs X zs A ≡ true → Leads UR X A
   unfolding leadsBy
-  leads-by X [] A h = subst (Leads UR X) (eqb-true X A h) Leads.here
+  leads-by X [] A h = rw (eqb-true X A h) Leads.here
   leads-by X (Z ∷ zs) A h =
-      let first : Bool = some (λ ρ. allPass u ρ && leads X Z ρ) rs in
-      let (ρ, r, p) = rule-of (leads X Z) (and-left first (leadsBy u rs Z zs A) h) in
-      leads-on ρ r X Z A p (leads-by Z zs A (and-right first (leadsBy u rs Z zs A) h))
+      let (first, rest) = simp and-split at h in
+      let (ρ, r, fits) = rule-of (leads X Z) first in
+      let (same, m) = simp (decided, has-symbol-exact) at fits in
+      rw same (leads-trans (rule-leads ρ r m) (leads-by Z zs A rest))
 
   cycle-by : (A X : ℕ) (ρ : Rule) → UR ρ → pairLeads A X ρ ≡ true → Leads UR X A → PairCycle (Among rs) S
   cycle-by A X (empty B) r h l = absurd (false≢true h)
   cycle-by A X (unit B Y) r h l = absurd (false≢true h)
   cycle-by A X (pair B Y W) r h l =
-      let back : Leads UR X B = subst (Leads UR X) (sym (eqb-true B A (and-left (eqb B A) (eqb Y X || eqb W X) h))) l
-      in (
+      let (same, m) = simp (decided, has-symbol-exact) at h in
+      let back = rw same at l in (
         B,
         Y,
         W,
         r,
         ⊎-elim
-            (λ e. inl (subst (λ z. Leads UR z B) (sym (eqb-true Y X e)) back))
-            (λ e. inr (subst (λ z. Leads UR z B) (sym (eqb-true W X e)) back))
-            (or-split (eqb Y X) (eqb W X) (and-right (eqb B A) (eqb Y X || eqb W X) h)),
+            (λ e. inl (rw e at back))
+            (λ k. let e : X ≡ W = List·Memᴰ·eq-of-singleton k in inr (rw e at back)) (List·Memᴰ·cases-cons m),
       )
 
   -- a certified cycle is one
   pub certified-cycle : (A X : ℕ) (zs : List ℕ) → certifiedCycle u rs A X zs ≡ true → PairCycle (Among rs) S
   unfolding certifiedCycle
   certified-cycle A X zs h =
-      let first : Bool = some (λ ρ. allPass u ρ && pairLeads A X ρ) rs in
-      let (ρ, r, p) = rule-of (pairLeads A X) (and-left first (leadsBy u rs X zs A) h) in
-      cycle-by A X ρ r p (leads-by X zs A (and-right first (leadsBy u rs X zs A) h))
+      let (first, rest) = simp and-split at h in
+      let (ρ, r, fits) = rule-of (pairLeads A X) first in
+      cycle-by A X ρ r fits (leads-by X zs A rest)

@@ -1,6 +1,5 @@
 -- Laws of derivation: it is transitive, and goes on inside any context. Assumes nothing.
-use Prim.Native.Nat.{ℕ}
-use mathlib.Core.List.{List, [], _∷_, _++_, append-assoc, append-nil}
+use Rattle.grammar.proofs.Basics.{List, _∷_, [], _++_, append-nil, append-assoc, ℕ}
 use Rattle.grammar.specs.Rule.{Rule, Rules, head, body, Productions, ProductionsOf, of-rule}
 use Rattle.grammar.specs.Derivation.{Step, by-production, Derives, none, more}
 
@@ -9,7 +8,7 @@ module _ {P : Productions} where
   derives-trans none e = e
   derives-trans (more s d) e = more s (derives-trans d e)
 
-  pub step-context : (γ δ : List ℕ) {α β : List ℕ} → Step P α β → Step P (γ ++ (α ++ δ)) (γ ++ (β ++ δ))
+  step-context : (γ δ : List ℕ) {α β : List ℕ} → Step P α β → Step P (γ ++ (α ++ δ)) (γ ++ (β ++ δ))
   step-context γ δ (by-production {A = A} {β = β} α ω p) =
       let s : Step P ((γ ++ α) ++ (A ∷ (ω ++ δ))) ((γ ++ α) ++ (β ++ (ω ++ δ))) = by-production (γ ++ α) (ω ++ δ) p in
       simp append-assoc (simp append-assoc at s)
@@ -30,15 +29,13 @@ module _ {P : Productions} where
   derives-production {γ} p d = more {γ = γ} (by-production [] [] p) (rw append-nil d)
 
   -- S ⇒* w₁ A w₂ and A ⇒* u₁ X u₂ give S ⇒* w₁ u₁ X u₂ w₂
-  pub derives-inside :
-      {α : List ℕ} {A : ℕ} (X : ℕ) (w₁ w₂ u₁ u₂ : List ℕ) →
+  pub derives-inside : {α : List ℕ} {A : ℕ} (X : ℕ) (w₁ w₂ u₁ u₂ : List ℕ) →
       Derives P α (w₁ ++ (A ∷ w₂)) → Derives P (A ∷ []) (u₁ ++ (X ∷ u₂)) → Derives P α (w₁ ++ u₁ ++ (X ∷ (u₂ ++ w₂)))
   derives-inside X w₁ w₂ u₁ u₂ d e =
       let f = derives-trans d (derives-context w₁ w₂ e) in
       rw append-assoc (rw (append-assoc u₁) at f)
 
 -- and from a rule's head
-pub derives-rule :
-    {R : Rules} (ρ : Rule) {β : List ℕ} → R ρ →
+pub derives-rule : {R : Rules} (ρ : Rule) {β : List ℕ} → R ρ →
     Derives (ProductionsOf R) (body ρ) β → Derives (ProductionsOf R) (head ρ ∷ []) β
 derives-rule ρ r d = derives-production (of-rule ρ r) d

@@ -1,20 +1,18 @@
 -- The symbols in a terminal context are the reached ones: a derivation carries backwards 'one symbol reaches X, all
 -- others generate', and each way to reach puts one terminal context into another. Assumes nothing.
-use Prim.Native.Nat.{ℕ}
-use mathlib.Core.Logic.{_↔_}
-use mathlib.Core.List.{List, [], _∷_, _++_}
+use Rattle.grammar.proofs.Basics.{_↔_, List, _∷_, [], _++_, ℕ}
 use Rattle.grammar.specs.Symbol.{Terminals}
-use Rattle.grammar.specs.Rule.{Rule, Rules, ProductionsOf, head, body, unit, pair}
+use Rattle.grammar.specs.Rule.{Rules, ProductionsOf, of-rule, unit, pair}
 use Rattle.grammar.specs.Derivation.{Derives, none}
 use Rattle.grammar.specs.Useful.{Productive, InContext}
 use Rattle.grammar.specs.Theorems.Inductive.{Generating, Reached}
 use Rattle.grammar.proofs.Strings.{All, nil, cons, Focus, on, past, focus-at}
 use Rattle.grammar.proofs.Derivations.{derives-append, derives-rule, derives-inside}
-use Rattle.grammar.proofs.Backwards.{by-rules, focus-before}
-use Rattle.grammar.proofs.Productive.{terminals-append, terminals-generate, generating-rule, generating-derives}
+use Rattle.grammar.proofs.Backwards.{Up, before-derivation, focus-before}
+use Rattle.grammar.proofs.Productive.{terminals-append, terminals-generate, generating-up, generating-derives}
 
 module _ {R : Rules} where
-  pub reached-trans : {S A X : ℕ} → Reached R S A → Reached R A X → Reached R S X
+  reached-trans : {S A X : ℕ} → Reached R S A → Reached R A X → Reached R S X
   reached-trans c Reached.start = c
   reached-trans c (Reached.by-unit r d) = Reached.by-unit r (reached-trans c d)
   reached-trans c (Reached.by-left r g d) = Reached.by-left r g (reached-trans c d)
@@ -24,22 +22,17 @@ module _ {R : Rules} where
 abbrev Reaches : Rules → ℕ → List ℕ → Type 0
 Reaches R X = Focus (λ Z. Reached R Z X) (Generating R)
 
-reached-rule : {R : Rules} (X : ℕ) (ρ : Rule) → R ρ → Reaches R X (body ρ) → Reached R (head ρ) X
-reached-rule X (unit A Y) r (on c nil) = reached-trans (Reached.by-unit r Reached.start) c
-reached-rule X (pair A Y Z) r (on c (cons g nil)) = reached-trans (Reached.by-left r g Reached.start) c
-reached-rule X (pair A Y Z) r (past g (on c nil)) = reached-trans (Reached.by-right r g Reached.start) c
+reached-up : {R : Rules} (X : ℕ) → Up (ProductionsOf R) (Reaches R X) (λ A. Reached R A X)
+reached-up X _ _ (of-rule (unit A Y) r) (on c nil) = reached-trans (Reached.by-unit r Reached.start) c
+reached-up X _ _ (of-rule (pair A Y Z) r) (on c (cons g nil)) = reached-trans (Reached.by-left r g Reached.start) c
+reached-up X _ _ (of-rule (pair A Y Z) r) (past g (on c nil)) = reached-trans (Reached.by-right r g Reached.start) c
 
 -- X is reached from S where S derives a form around X whose other symbols generate
-pub around-reached :
-    {R : Rules} {S : ℕ} {α β : List ℕ} (X : ℕ) →
+pub around-reached : {R : Rules} {S : ℕ} {α β : List ℕ} (X : ℕ) →
     All (Generating R) α → All (Generating R) β → Derives (ProductionsOf R) (S ∷ []) (α ++ (X ∷ β)) → Reached R S X
 around-reached {R} {S} X g h d =
     first
-    (focus-before
-    (by-rules (All (Generating R)) (Generating R) generating-rule)
-    (by-rules (Reaches R X) (λ A. Reached R A X) (reached-rule X))
-    d
-    (focus-at X g Reached.start h))
+    (before-derivation (Reaches R X) (focus-before generating-up (reached-up X)) d (focus-at X g Reached.start h))
   where
     first : Reaches R X (S ∷ []) → Reached R S X
     first (on c nil) = c
@@ -49,7 +42,7 @@ module _ (R : Rules) (S X : ℕ) where
   unfolding InContext
   in-context-reached c = around-reached X (terminals-generate (c .0) (c .2)) (terminals-generate (c .1) (c .3)) (c .4)
 
-  pub in-context-trans : (A : ℕ) → InContext R S A → InContext R A X → InContext R S X
+  in-context-trans : (A : ℕ) → InContext R S A → InContext R A X → InContext R S X
   unfolding InContext
   in-context-trans A c d = (
     c .0 ++ d .0,

@@ -1,6 +1,5 @@
 -- Laws of paths: they join and split where their strings do, and grow with the transitions. Assumes nothing.
-use Prim.Native.Nat.{ℕ, _<_}
-use mathlib.Core.List.{List, [], _∷_, _++_}
+use Rattle.grammar.proofs.Basics.{List, _∷_, [], _++_, ℕ, _<_}
 use Rattle.grammar.specs.Automaton.{Transitions, Path, here, along, StatesBelow}
 
 module _ {D : Transitions} where

@@ -1,6 +1,6 @@
 -- The closure is the smallest closed set: each way into it is an instance of saturation and the other way round, by
 -- cases on the rule. Assumes nothing.
-use Prim.Native.Nat.{ℕ, _<_}
+use Rattle.grammar.proofs.Basics.{ℕ, _<_}
 use Rattle.grammar.specs.Rule.{Rule, Rules, head, body, empty, unit, pair}
 use Rattle.grammar.specs.Automaton.{Transitions, Path, here, along, StatesBelow}
 use Rattle.grammar.specs.Closure.{Closed, Closure}

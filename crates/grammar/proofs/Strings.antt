@@ -1,10 +1,6 @@
 -- Strings all of whose symbols, one of whose symbols, or all but one of whose symbols have a property.
 -- Assumes nothing.
-use Prim.Native.Nat.{ℕ, _≤_}
-use mathlib.Core.Logic.{_⊎_, inl, inr}
-use mathlib.Core.List.{List, [], _∷_, _++_}
-use lib.ListN.{length}
-use native.Mathlib.Omega.{arith}
+use Rattle.grammar.proofs.Basics.{⊎-elim, inl, inr, _⊎_, List, _∷_, [], _++_, ℕ}
 
 -- every symbol of the string is in P
 pub data All (P : ℕ → Type 0) : List ℕ → Type 0 where
@@ -41,29 +37,15 @@ module _ {P : ℕ → Type 0} where
   pub any-append : (α : List ℕ) {β : List ℕ} → Any P (α ++ β) → Any P α ⊎ Any P β
   any-append [] a = inr a
   any-append (X ∷ α) (here p) = inl (here p)
-  any-append (X ∷ α) (there a) = further (any-append α a)
-    where
-      further : {α β : List ℕ} → Any P α ⊎ Any P β → Any P (X ∷ α) ⊎ Any P β
-      further (inl b) = inl (there b)
-      further (inr b) = inr b
-
-  pub any-length : {α : List ℕ} → Any P α → 1 ≤ length α
-  any-length (here p) = omega arith
-  any-length (there a) = omega arith
+  any-append (X ∷ α) (there a) = ⊎-elim (λ b. inl (there b)) inr (any-append α a)
 
 module _ {P Q : ℕ → Type 0} where
   pub focus-at : {α β : List ℕ} (X : ℕ) → All Q α → P X → All Q β → Focus P Q (α ++ (X ∷ β))
   focus-at X nil p qs = on p qs
   focus-at X (cons q qs) p rs = past q (focus-at X qs p rs)
 
-  pub focus-append :
-      (α β : List ℕ) → Focus P Q (α ++ β) → (Focus P Q α × All Q β) ⊎ (All Q α × Focus P Q β)
+  pub focus-append : (α β : List ℕ) → Focus P Q (α ++ β) → (Focus P Q α × All Q β) ⊎ (All Q α × Focus P Q β)
   focus-append [] β f = inr (nil, f)
   focus-append (X ∷ α) β (on p qs) = inl (on p (all-left α β qs), all-right α qs)
-  focus-append (X ∷ α) β (past q f) = further (focus-append α β f)
-    where
-      further :
-          (Focus P Q α × All Q β) ⊎ (All Q α × Focus P Q β) →
-          (Focus P Q (X ∷ α) × All Q β) ⊎ (All Q (X ∷ α) × Focus P Q β)
-      further (inl e) = inl (past q (e .0), e .1)
-      further (inr e) = inr (cons q (e .0), e .1)
+  focus-append (X ∷ α) β (past q f) =
+      ⊎-elim (λ e. inl (past q (e .0), e .1)) (λ e. inr (cons q (e .0), e .1)) (focus-append α β f)

@@ -1,8 +1,6 @@
 -- A symbol is useful if and only if it is productive and in a terminal context: each symbol of a form that derives a
 -- terminal string generates, those around X among them. Assumes nothing.
-use Prim.Native.Nat.{ℕ}
-use mathlib.Core.Logic.{_↔_}
-use mathlib.Core.List.{_∷_, _++_}
+use Rattle.grammar.proofs.Basics.{_↔_, _∷_, _++_, ℕ}
 use Rattle.grammar.specs.Rule.{Rules}
 use Rattle.grammar.specs.Useful.{Productive, InContext, Useful}
 use Rattle.grammar.specs.Theorems.Inductive.{Generating}
@@ -24,15 +22,9 @@ module _ (R : Rules) (S X : ℕ) where
   pub both-useful : Productive R X → InContext R S X → Useful R S X
   unfolding Useful Productive InContext
   both-useful p c =
-      let v = c .0 in
-      let w = c .1 in (
-        v,
-        w,
-        v ++ (p .0 ++ w),
-        terminals-append v (p .0 ++ w) (c .2) (terminals-append (p .0) w (p .1) (c .3)),
-        c .4,
-        derives-context v w (p .2),
-      )
+      let (v, w, tv, tw, d) = c in
+      let (u, tu, e) = p in
+      (v, w, v ++ (u ++ w), terminals-append v (u ++ w) tv (terminals-append u w tu tw), d, derives-context v w e)
 
   pub useful-is-both : Useful R S X ↔ (Productive R X × InContext R S X)
   useful-is-both = (useful-both, λ b. both-useful (b .0) (b .1))

@@ -1,19 +1,19 @@
 -- Whether a record stands among the first records of a list: what one more comparison tells. Assumes nothing.
-use mathlib.Core.Path.{_≡_, sym}
-use mathlib.Core.Bool.{true, false, _||_, or-true, or-false, or-assoc}
-use mathlib.Core.List.{List, [], _∷_, _++_}
-use Prim.Native.Nat.{ℕ, zero, suc, _<_}
+use Rattle.grammar.proofs.Basics.{_≡_, refl, sym, true, false, _||_, or-false, or-true, or-assoc, List, _∷_, [], _++_}
+use Rattle.grammar.proofs.Basics.{ℕ, _<_, suc, zero, length, getD, take, take-suc}
 use native.Mathlib.Nat.{not-suc-le-zero, le-of-suc-le-suc}
-use lib.ListN.{length, getD, take}
-use lib.Seq.{take-suc}
 use Rattle.job.specs.declared.JobRecord.{JobRecord}
 use Rattle.job.specs.Format.{same, has, noRecord}
 
 module _ (r : JobRecord) where
-  pub has-snoc : (xs : List JobRecord) (x : JobRecord) → has (xs ++ (x ∷ [])) r ≡ (has xs r || same x r)
+  has-snoc : (xs : List JobRecord) (x : JobRecord) → has (xs ++ (x ∷ [])) r ≡ (has xs r || same x r)
   unfolding has
   has-snoc [] x = or-false (same x r)
   has-snoc (y ∷ ys) x = rw (has-snoc ys x) (sym (or-assoc (same y r) (has ys r) (same x r)))
+
+  pub none-at-first : has [] r ≡ false
+  unfolding has
+  none-at-first = refl
 
   pub none-so-far : (rs : List JobRecord) (j : ℕ) → j < length rs → has (take j rs) r ≡ false
       → same (getD rs j noRecord) r ≡ false

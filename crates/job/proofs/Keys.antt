@@ -1,23 +1,17 @@
 -- The sort keys of an accepted job's rules hold the rules: a key's four bytes are the record's, so each key decodes to
 -- the rule of its rank. Assumes nothing.
-use mathlib.Core.Path.{_≡_, refl, sym, ap, ap₂, _∙_}
-use mathlib.Core.Logic.{inl, inr}
-use mathlib.Core.Bool.{Bool}
-use mathlib.Core.List.{List, [], _∷_, map, List·Memᴰ, List·Memᴰ·head, List·Memᴰ·tail}
-use Prim.Native.Nat.{ℕ, _<_, _≤_}
-use native.Mathlib.Omega.{arith}
-use lib.ListN.{length, getD, take, length-take, length-map, List·getD-map}
-use lib.Seq.{getD-take}
+use Rattle.grammar.proofs.Basics.{_≡_, refl, _∙_, sym, ap, ap₂, inl, inr, _⊎_, Bool, List, _∷_, [], List·Memᴰ}
+use Rattle.grammar.proofs.Basics.{List·Memᴰ·head, List·Memᴰ·tail, map, ℕ, _<_, _≤_, arith, length, getD, take}
+use Rattle.grammar.proofs.Basics.{length-map, length-take, List·getD-map, getD-take}
 use Rattle.job.specs.declared.JobRecord.{JobRecord}
-use Rattle.job.specs.Format.{recordsOf, noRecord}
+use Rattle.job.specs.Format.{recordsOf, noRecord, byteE, byteU, byteP}
 use Rattle.job.specs.Accepted.{Accepted}
 use Rattle.job.specs.Job.{sortKey, sortedRules, ruleOf, jobOf, jobOfRecords}
 use Rattle.job.specs.Inside.Keys.{keyHead, keyKind, keySecond, keyThird, ruleOfKey, KeyFits}
 use Rattle.job.proofs.NoRepeat.{member-at}
-use Rattle.job.proofs.Shapes.{RuleShape, empty-shape, unit-shape, pair-shape, Bytes, rule-bytes}
+use Rattle.job.proofs.Shapes.{RuleShape, empty-shape, unit-shape, pair-shape, rule-shape, shape-bounds}
 use Rattle.job.proofs.Ranks.{sorted-member}
 use Rattle.job.proofs.Insertion.{rules-counted}
-use Rattle.job.proofs.OrderFree.{fitting-shaped}
 
 -- the four bytes of a record's key are the record's
 record Decoded (r : JobRecord) : Type 0 where
@@ -26,58 +20,37 @@ record Decoded (r : JobRecord) : Type 0 where
   pub second : keySecond (sortKey r) ≡ r .second
   pub third : keyThird (sortKey r) ≡ r .third
 
-decoded : (r : JobRecord) → Bytes r → Decoded r
-decoded r b =
-    let (k, s, t) = b in
-    record { head = omega arith; kind = omega arith; second = omega arith; third = omega arith }
+decoded : {r : JobRecord} → RuleShape r → Decoded r
+decoded s = let b = shape-bounds s in omega arith
 
 -- so it says the record's rule
-key-says : (r : JobRecord) → Bytes r → ruleOfKey (sortKey r) ≡ ruleOf r
+key-says : {r : JobRecord} → RuleShape r → ruleOfKey (sortKey r) ≡ ruleOf r
 unfolding ruleOfKey ruleOf
-key-says r b = let d = decoded r b in rw (d .head, d .kind, d .second, d .third)
+key-says s = let d = decoded s in rw (d .head, d .kind, d .second, d .third)
 
 -- and the key of a rule's record fits
-key-fits : (r : JobRecord) → RuleShape r → KeyFits (sortKey r)
-key-fits r s = fits s
+key-fits : {r : JobRecord} → RuleShape r → KeyFits (sortKey r)
+key-fits {r} s =
+    let d = decoded s in
+    let b = shape-bounds s in
+    record { kind = rw (d .kind) (kind s); head = omega arith; second = omega arith; third = omega arith }
   where
-    d : Decoded r
-    d = decoded r (rule-bytes s)
-
-    fits : RuleShape r → KeyFits (sortKey r)
-    fits (empty-shape k f s t) =
-        record {
-          kind = inl (d .kind ∙ k);
-          head = rw (d .head) f;
-          second = rw (d .second) (omega arith);
-          third = rw (d .third) (omega arith);
-        }
-    fits (unit-shape k f s t) =
-        record {
-          kind = inr (inl (d .kind ∙ k));
-          head = rw (d .head) f;
-          second = rw (d .second) s;
-          third = rw (d .third) (omega arith);
-        }
-    fits (pair-shape k f s t) =
-        record {
-          kind = inr (inr (d .kind ∙ k));
-          head = rw (d .head) f;
-          second = rw (d .second) (omega arith);
-          third = rw (d .third) (omega arith);
-        }
+    kind : RuleShape r → (r .kind ≡ byteE) ⊎ ((r .kind ≡ byteU) ⊎ (r .kind ≡ byteP))
+    kind (empty-shape k f) = inl k
+    kind (unit-shape k f) = inr (inl k)
+    kind (pair-shape k f) = inr (inr k)
 
 keys-say : (rs : List JobRecord) → ((r : JobRecord) → List·Memᴰ r rs → RuleShape r)
     → map ruleOfKey (map sortKey rs) ≡ map ruleOf rs
 keys-say [] shaped = refl
 keys-say (r ∷ rs) shaped =
-    ap₂ _∷_ (key-says r (rule-bytes (shaped r (List·Memᴰ·head refl))))
-    (keys-say rs (λ x m. shaped x (List·Memᴰ·tail m)))
+    ap₂ _∷_ (key-says (shaped r (List·Memᴰ·head refl))) (keys-say rs (λ x m. shaped x (List·Memᴰ·tail m)))
 
 module _ {needed : Bool} {job : List ℕ} (ok : Accepted needed job) where
   shaped : (r : JobRecord) → List·Memᴰ r (sortedRules (recordsOf job)) → RuleShape r
   shaped r m =
       let (member, rule) = sorted-member (recordsOf job) m in
-      fitting-shaped (recordsOf job) (ok .fitting) r member rule
+      rule-shape r (ok .fitting r member) rule
 
   -- the first n keys are those of the rules, in the order of their ranks
   module _ (keys : List ℕ) (n : ℕ) (count : n ≡ length (sortedRules (recordsOf job)))
@@ -96,7 +69,7 @@ module _ {needed : Bool} {job : List ℕ} (ok : Accepted needed job) where
     pub keys-fit : (k : ℕ) → k < n → KeyFits (getD keys k 0)
     keys-fit k h =
         let r = getD (sortedRules (recordsOf job)) k noRecord in
-        rw (key-at k h) (key-fits r (shaped r (member-at noRecord (sortedRules (recordsOf job)) k (omega arith))))
+        rw (key-at k h) (key-fits (shaped r (member-at noRecord (sortedRules (recordsOf job)) k (omega arith))))
 
     pub keys-of-rules : (n ≤ 256) × ((k : ℕ) → k < n → KeyFits (getD keys k 0))
     keys-of-rules = (keys-within, keys-fit)

@@ -1,12 +1,8 @@
 -- Lists in which no element stands twice: what stands before it or after it is another. Assumes nothing.
-use mathlib.Core.Path.{refl, sym, _∙_}
-use mathlib.Core.Logic.{⊎-elim}
-use mathlib.Core.List.{List, [], _∷_, _++_, List·Memᴰ, List·Memᴰ·head, List·Memᴰ·tail, List·Memᴰ·cases-cons}
-use mathlib.Core.List.{List·Permᴰ, List·Permᴰ·nil, List·Permᴰ·cons, List·Permᴰ·swap, List·Permᴰ·trans, Permᴰ·symm}
-use mathlib.Core.List.{Memᴰ·cast, Memᴰ·append-left}
-use Prim.Native.Nat.{ℕ, zero, suc, _<_}
-use native.Mathlib.Omega.{arith}
-use lib.ListN.{length, getD}
+use Rattle.grammar.proofs.Basics.{refl, _∙_, sym, ⊎-elim, List, _∷_, [], List·Memᴰ, _++_, List·Memᴰ·head}
+use Rattle.grammar.proofs.Basics.{List·Memᴰ·tail, List·Memᴰ·cases-cons, Memᴰ·cast, List·Permᴰ, Memᴰ·append-left}
+use Rattle.grammar.proofs.Basics.{Permᴰ·symm, ℕ, _<_, suc, zero, arith, length, getD}
+use mathlib.Core.List.{List·Permᴰ·nil, List·Permᴰ·cons, List·Permᴰ·swap, List·Permᴰ·trans}
 use Rattle.grammar.specs.Counting.{NoRepeat}
 use Rattle.job.proofs.Permutation.{member-permutes}
 
@@ -16,8 +12,7 @@ no-repeat-permutes List·Permᴰ·nil h = h
 no-repeat-permutes (List·Permᴰ·cons e d) h =
     (λ n. h .0 (Memᴰ·cast e (member-permutes (Permᴰ·symm d) n)), no-repeat-permutes d (h .1))
 no-repeat-permutes (List·Permᴰ·swap e f) h = (
-  λ n.
-      ⊎-elim (λ p. h .0 (List·Memᴰ·head (e ∙ sym p ∙ sym f))) (λ t. h .1 .0 (Memᴰ·cast f t)) (List·Memᴰ·cases-cons n),
+  λ n. ⊎-elim (λ p. h .0 (List·Memᴰ·head (e ∙ sym p ∙ sym f))) (λ t. h .1 .0 (Memᴰ·cast f t)) (List·Memᴰ·cases-cons n),
   (λ n. h .0 (List·Memᴰ·tail (Memᴰ·cast e n)), h .1 .1),
 )
 no-repeat-permutes (List·Permᴰ·trans d e) h = no-repeat-permutes e (no-repeat-permutes d h)

@@ -1,25 +1,17 @@
 -- The sorted rules are the rules among the records, strictly rising by the key. So as many of them sort before the one
 -- at place i as there are places before i. Assumes nothing.
-use mathlib.Core.Path.{_≡_, refl, sym, ap, _∙_}
-use mathlib.Core.Logic.{_⊎_, inl, inr, ⊎-elim}
-use mathlib.Core.Bool.{Bool, true, false}
-use mathlib.Core.List.{List, [], _∷_, List·Memᴰ, List·Memᴰ·head, List·Memᴰ·tail, List·Memᴰ·cases-cons}
-use mathlib.Core.List.{List·Memᴰ·not-nil, Memᴰ·cast}
-use Prim.Native.Nat.{ℕ, zero, suc, _<_, _≤_}
-use native.Mathlib.Nat.{le-of-lt, le-of-eq}
-use native.Mathlib.Omega.{arith}
-use lib.Dec.{leb, ltb}
-use lib.ListN.{length, getD}
-use borrow.Author.Tests.{leb-true, leb-false, ltb-true, ltb-false, lt-ltb, le-ltb}
-use Rattle.grammar.specs.Counting.{count}
+use Rattle.grammar.proofs.Basics.{_≡_, refl, _∙_, sym, ap, ⊎-elim, inl, inr, _⊎_, true, false, Bool, List, _∷_, []}
+use Rattle.grammar.proofs.Basics.{List·Memᴰ, List·Memᴰ·head, List·Memᴰ·tail, List·Memᴰ·not-nil, List·Memᴰ·cases-cons}
+use Rattle.grammar.proofs.Basics.{Memᴰ·cast, ℕ, _<_, _≤_, suc, zero, le-of-lt, le-refl, eq-or-lt-of-le, arith, ltb}
+use Rattle.grammar.proofs.Basics.{leb, length, getD, lt-ltb, leb-true, leb-false, le-ltb, cases}
+use Rattle.grammar.specs.Counting.{count, NoRepeat}
 use Rattle.job.specs.declared.JobRecord.{JobRecord}
 use Rattle.job.specs.Format.{isRule}
 use Rattle.job.specs.Job.{sortKey, insert, sortedRules}
-use Rattle.grammar.proofs.Basics.{cases}
-use Rattle.grammar.specs.Counting.{NoRepeat}
+use Rattle.grammar.proofs.Counting.{count-all}
 use Rattle.job.proofs.NoRepeat.{member-at}
-use Rattle.job.proofs.Shapes.{rule-bytes, key-apart}
-use Rattle.job.proofs.SortedRules.{Shaped}
+use Rattle.job.proofs.Shapes.{key-apart}
+use Rattle.job.proofs.SortedRules.{Fitting}
 
 -- what an insert adds to the members
 insert-cases : (r x : JobRecord) (l : List JobRecord) → List·Memᴰ x (insert r l) → (x ≡ r) ⊎ List·Memᴰ x l
@@ -28,11 +20,9 @@ insert-cases r x [] m = List·Memᴰ·cases-cons m
 insert-cases r x (y ∷ ys) m =
     cases (leb (sortKey r) (sortKey y))
     (λ t. List·Memᴰ·cases-cons (rw t at m))
-    (λ t.
-    ⊎-elim
+    (λ t. ⊎-elim
     (λ e. inr (List·Memᴰ·head e))
-    (λ n. ⊎-elim (λ e. inl e) (λ k. inr (List·Memᴰ·tail k)) (insert-cases r x ys n))
-    (List·Memᴰ·cases-cons (rw t at m)))
+    (λ n. ⊎-elim inl (λ k. inr (List·Memᴰ·tail k)) (insert-cases r x ys n)) (List·Memᴰ·cases-cons (rw t at m)))
 
 -- the sorted rules are the rules among the records
 pub sorted-member : (rs : List JobRecord) {x : JobRecord} → List·Memᴰ x (sortedRules rs)
@@ -59,45 +49,37 @@ insert-rising r [] other h = (λ y m. absurd (List·Memᴰ·not-nil m), tt)
 insert-rising r (x ∷ xs) other h =
     cases (leb (sortKey r) (sortKey x))
     (λ t.
-    let rx : sortKey r < sortKey x =
+    let first : sortKey r < sortKey x =
     omega (arith, leb-true (sortKey r) (sortKey x) t, other x (List·Memᴰ·head refl)) in
-    rw t (
-      λ y m.
-          ⊎-elim (λ e. rw e rx) (λ n. omega (arith, h .0 y n)) (List·Memᴰ·cases-cons m),
-      h,
-    ))
+    rw t (λ y m. ⊎-elim (λ e. rw e first) (λ n. omega (arith, h .0 y n)) (List·Memᴰ·cases-cons m), h))
     (λ t.
-    let xr : sortKey x < sortKey r = leb-false (sortKey r) (sortKey x) t in
     rw t (
-      λ y m. ⊎-elim (λ e. rw e xr) (λ n. h .0 y n) (insert-cases r y xs m),
+      λ y m. ⊎-elim (λ e. rw e (leb-false (sortKey r) (sortKey x) t)) (h .0 y) (insert-cases r y xs m),
       insert-rising r xs (λ y m. other y (List·Memᴰ·tail m)) (h .1),
     ))
 
-pub sorted-rising : (rs : List JobRecord) → Shaped rs → NoRepeat rs → Rising (sortedRules rs)
+pub sorted-rising : (rs : List JobRecord) → Fitting rs → NoRepeat rs → Rising (sortedRules rs)
 unfolding sortedRules Rising NoRepeat
 sorted-rising [] s d = tt
 sorted-rising (r ∷ rs) s d =
     let rest : Rising (sortedRules rs) = sorted-rising rs (λ x m. s x (List·Memᴰ·tail m)) (d .1) in
     cases (isRule r)
-    (λ t.
-    rw t
+    (λ t. rw t
     (insert-rising r (sortedRules rs)
     (λ y m e.
     let (n, u) = sorted-member rs m in
-    let p : y ≡ r =
-    key-apart y r (rule-bytes (s y (List·Memᴰ·tail n) u)) (rule-bytes (s r (List·Memᴰ·head refl) t)) e in
-    d .0 (Memᴰ·cast (sym p) n))
+    d .0 (Memᴰ·cast (sym (key-apart y r (s y (List·Memᴰ·tail n)) u (s r (List·Memᴰ·head refl)) t e)) n))
     rest))
     (λ t. rw t rest)
 
 -- an earlier place has the smaller key
-pub rising-places : (d : JobRecord) (l : List JobRecord) → Rising l → (i j : ℕ) → i < j → j < length l
+rising-places : (d : JobRecord) (l : List JobRecord) → Rising l → (i j : ℕ) → i < j → j < length l
     → sortKey (getD l i d) < sortKey (getD l j d)
 unfolding Rising
-rising-places d [] h i j p q = absurd (omega arith)
-rising-places d (x ∷ xs) h zero zero p q = absurd (omega arith)
+rising-places d [] h i j p q = omega arith
+rising-places d (x ∷ xs) h zero zero p q = omega arith
 rising-places d (x ∷ xs) h zero (suc j) p q = h .0 (getD xs j d) (member-at d xs j (omega arith))
-rising-places d (x ∷ xs) h (suc i) zero p q = absurd (omega arith)
+rising-places d (x ∷ xs) h (suc i) zero p q = omega arith
 rising-places d (x ∷ xs) h (suc i) (suc j) p q = rising-places d xs (h .1) i j (omega arith) (omega arith)
 
 -- a test that passes below i and not from i on counts i
@@ -108,22 +90,13 @@ count-front t i zero h below above = omega arith
 count-front t i (suc n) h below above =
     cases (leb i n)
     (λ u.
-    let p : i ≤ n = leb-true i n u in
+    let p = leb-true i n u in
     rw (above n p (omega arith)) (omega (arith, count-front t i n p below (λ k a b. above k a (omega arith)))))
-    (λ u.
-    let p : n < i = leb-false i n u in
-    rw (below n p)
-    (omega (arith, count-front t n n (omega arith) (λ k a. below k (omega arith)) (λ k a b. absurd (omega arith)))))
+    (λ u. let p = leb-false i n u in rw (below n p) (omega (arith, count-all t n (λ k a. below k (omega arith)))))
 
 pub rising-counts : (d : JobRecord) (l : List JobRecord) → Rising l → (i : ℕ) → i < length l
     → count (λ k. ltb (sortKey (getD l k d)) (sortKey (getD l i d))) (length l) ≡ i
 rising-counts d l h i p =
-    count-front (λ k. ltb (sortKey (getD l k d)) (sortKey (getD l i d))) i (length l) (omega arith)
-    (λ k b. lt-ltb (sortKey (getD l k d)) (sortKey (getD l i d)) (rising-places d l h k i b p))
-    (λ k a b.
-    le-ltb (sortKey (getD l k d)) (sortKey (getD l i d))
-    (cases (ltb i k)
-    (λ u. le-of-lt (rising-places d l h i k (ltb-true i k u) b))
-    (λ u.
-    let e : i ≡ k = omega (arith, ltb-false i k u) in
-    le-of-eq (ap (λ j. sortKey (getD l j d)) e))))
+    count-front _ i _ (omega arith) (λ k b. lt-ltb _ _ (rising-places d l h k i b p))
+    (λ k a b. le-ltb _ _
+    (⊎-elim (λ e. rw e (le-refl _)) (λ u. le-of-lt (rising-places d l h i k u b)) (eq-or-lt-of-le a)))

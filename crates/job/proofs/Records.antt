@@ -1,11 +1,7 @@
 -- The records of a job by place: how many there are, and the four bytes of each. By recursion on the bytes, four at a
 -- time. Assumes nothing.
-use mathlib.Core.Path.{_≡_, refl, sym, ap, _∙_}
-use mathlib.Core.List.{List, [], _∷_}
-use Prim.Native.Nat.{ℕ, zero, suc, _+_, _*_, _/_, _≤_}
-use native.Mathlib.Nat.{suc-add}
-use native.Mathlib.Omega.{arith}
-use lib.ListN.{length, getD}
+use Rattle.grammar.proofs.Basics.{_≡_, refl, List, _∷_, [], ℕ, _≤_, _+_, suc, zero, _*_, _/_, suc-add, arith, length}
+use Rattle.grammar.proofs.Basics.{getD}
 use Rattle.job.specs.declared.JobRecord.{JobRecord}
 use Rattle.job.specs.Format.{recordsOf, noRecord}
 
@@ -20,19 +16,7 @@ records-counted (k ∷ x ∷ y ∷ z ∷ rest) = omega (arith, records-counted r
 -- the record whose four bytes stand from a place on
 abbrev pub recordFrom : List ℕ → ℕ → JobRecord
 recordFrom b at =
-    record {
-      kind = getD b at 0;
-      first = getD b (at + 1) 0;
-      second = getD b (at + 2) 0;
-      third = getD b (at + 3) 0;
-    }
-
-past-four : (k x y z : ℕ) (rest : List ℕ) (at : ℕ)
-    → recordFrom (k ∷ x ∷ y ∷ z ∷ rest) (suc (suc (suc (suc at)))) ≡ recordFrom rest at
-past-four k x y z rest at = simp suc-add
-
-next-place : (i : ℕ) → 4 * suc i ≡ suc (suc (suc (suc (4 * i))))
-next-place i = omega arith
+    record { kind = getD b at 0; first = getD b (at + 1) 0; second = getD b (at + 2) 0; third = getD b (at + 3) 0 }
 
 pub record-of-bytes : (b : List ℕ) (i : ℕ) → 4 * i + 4 ≤ length b
     → getD (recordsOf b) i noRecord ≡ recordFrom b (4 * i)
@@ -43,6 +27,5 @@ record-of-bytes (k ∷ x ∷ []) i h = absurd (omega arith)
 record-of-bytes (k ∷ x ∷ y ∷ []) i h = absurd (omega arith)
 record-of-bytes (k ∷ x ∷ y ∷ z ∷ rest) zero h = refl
 record-of-bytes (k ∷ x ∷ y ∷ z ∷ rest) (suc i) h =
-    record-of-bytes rest i (omega arith)
-    ∙ sym (past-four k x y z rest (4 * i))
-    ∙ ap (recordFrom (k ∷ x ∷ y ∷ z ∷ rest)) (sym (next-place i))
+    let four-on : 4 * suc i ≡ suc (suc (suc (suc (4 * i)))) = omega arith in
+    rw four-on (simp suc-add (record-of-bytes rest i (omega arith)))

@@ -1,18 +1,14 @@
 -- What a record that is not refused by itself holds: each field is of the class that the table gives for its kind. Two
 -- such rules with the same key are the same record. Assumes nothing.
-use mathlib.Core.Path.{_≡_, refl}
-use mathlib.Core.Logic.{⊎-elim}
-use mathlib.Core.Bool.{Bool, true, false, cond, not, _||_}
-use Prim.Native.Nat.{ℕ, _+_, _*_, _<_, _≤_}
-use native.Mathlib.Omega.{arith}
-use lib.Dec.{lit≤, eqb}
-use borrow.Author.Tests.{eqb-true, ltb-true}
+use Rattle.grammar.proofs.Basics.{_≡_, refl, ⊎-elim, true, false, Bool, cond, ℕ, _<_, _≤_, _+_, suc, _*_, arith}
+use Rattle.grammar.proofs.Basics.{eqb-true, ltb-true, not-false, or-split}
+use lib.Dec.{lit≤}
 use Rattle.grammar.specs.Rule.{empty, unit, pair}
 use Rattle.job.specs.declared.JobRecord.{JobRecord}
-use Rattle.job.specs.Format.{rowOf, classAt, inClass, badField, isRule, byteE, byteU, byteP, byteT, byteI}
-use Rattle.job.specs.Format.{byteF, byteS}
+use Rattle.job.specs.declared.FieldClass.{FieldClass}
+use Rattle.job.specs.declared.FieldClass.the-variants.{Zero, Variable, Symbol, State}
+use Rattle.job.specs.Format.{rowOf, classAt, inClass, badField, isRule, byteE, byteU, byteP}
 use Rattle.job.specs.Job.{ruleOf, sortKey}
-use Rattle.grammar.proofs.Basics.{or-split}
 use Rattle.job.proofs.Members.{record-path}
 
 -- a row of the table, or 7
@@ -20,86 +16,83 @@ within : (a : Bool) {x y n : ℕ} → x ≤ n → y ≤ n → cond a x y ≤ n
 within true p q = p
 within false p q = q
 
-pub row-within : (k : ℕ) → rowOf k ≤ 7
-row-within k =
-    within (eqb k byteE) (lit≤ tt)
-    (within (eqb k byteU) (lit≤ tt)
-    (within (eqb k byteP) (lit≤ tt)
-    (within (eqb k byteT) (lit≤ tt)
-    (within (eqb k byteI) (lit≤ tt) (within (eqb k byteF) (lit≤ tt) (within (eqb k byteS) (lit≤ tt) (lit≤ tt)))))))
+row-within : (k : ℕ) → rowOf k ≤ 7
+row-within k = search (within, lit≤) depth 9
+
+pub known-row : (k : ℕ) → (rowOf k ≡ 7 → ⊥) → rowOf k < 7
+known-row k n = omega (arith, row-within k)
+
+-- what is 0 passes each test that would make it another number
+pub test-passed : (b : Bool) (n m : ℕ) → cond b (suc n) m ≡ 0 → (b ≡ false) × (m ≡ 0)
+test-passed true n m e = absurd (omega arith)
+test-passed false n m e = (refl, e)
+
+-- what a class says of a number
+abbrev Of : FieldClass → ℕ → Type 0
+Of Zero x = x ≡ 0
+Of Variable x = x < 32
+Of Symbol x = x < 64
+Of State x = x < 32
+
+of-class : (c : FieldClass) (x : ℕ) → inClass c x ≡ true → Of c x
+of-class Zero x e = eqb-true x 0 e
+of-class Variable x e = ltb-true x 32 e
+of-class Symbol x e = ltb-true x 64 e
+of-class State x e = ltb-true x 32 e
 
 -- the fields of a record of kind k are of the classes of that kind
-pub record Fits (k : ℕ) (r : JobRecord) : Type 0 where
-  pub first-fits : inClass (classAt (rowOf k) 0) (r .first) ≡ true
-  pub second-fits : inClass (classAt (rowOf k) 1) (r .second) ≡ true
-  pub third-fits : inClass (classAt (rowOf k) 2) (r .third) ≡ true
-
-none-bad : (f s t : Bool) → _≡_ {A = ℕ} (cond (not f) 1 (cond (not s) 2 (cond (not t) 3 0))) 0
-    → (f ≡ true) × (s ≡ true) × (t ≡ true)
-none-bad false s t e = absurd (omega arith)
-none-bad true false t e = absurd (omega arith)
-none-bad true true false e = absurd (omega arith)
-none-bad true true true e = (refl, refl, refl)
+abbrev pub Fits : ℕ → JobRecord → Type 0
+Fits k r =
+    Of (classAt (rowOf k) 0) (r .first) × Of (classAt (rowOf k) 1) (r .second) × Of (classAt (rowOf k) 2) (r .third)
 
 pub fields-fit : (k : ℕ) (r : JobRecord) → badField r ≡ 0 → r .kind ≡ k → Fits k r
 unfolding badField
 fields-fit k r e h =
-    let (f, s, t) =
-    none-bad
-    (inClass (classAt (rowOf (r .kind)) 0) (r .first))
-    (inClass (classAt (rowOf (r .kind)) 1) (r .second))
-    (inClass (classAt (rowOf (r .kind)) 2) (r .third))
-    e in
-    record { first-fits = rw h at f; second-fits = rw h at s; third-fits = rw h at t }
+    let (f, e) = test-passed _ 0 _ (rw h at e) in
+    let (s, e) = test-passed _ 1 _ e in
+    let (t, e) = test-passed _ 2 0 e in (
+      of-class (classAt (rowOf k) 0) _ (not-false _ f),
+      of-class (classAt (rowOf k) 1) _ (not-false _ s),
+      of-class (classAt (rowOf k) 2) _ (not-false _ t),
+    )
 
 -- the three shapes of a rule's record
 pub data RuleShape (r : JobRecord) : Type 0 where
-  empty-shape : r .kind ≡ byteE → r .first < 32 → r .second ≡ 0 → r .third ≡ 0 → RuleShape r
-  unit-shape : r .kind ≡ byteU → r .first < 32 → r .second < 64 → r .third ≡ 0 → RuleShape r
-  pair-shape : r .kind ≡ byteP → r .first < 32 → r .second < 32 → r .third < 32 → RuleShape r
+  empty-shape : r .kind ≡ byteE → Fits byteE r → RuleShape r
+  unit-shape : r .kind ≡ byteU → Fits byteU r → RuleShape r
+  pair-shape : r .kind ≡ byteP → Fits byteP r → RuleShape r
 
 pub rule-shape : (r : JobRecord) → badField r ≡ 0 → isRule r ≡ true → RuleShape r
 rule-shape r e h =
     ⊎-elim
-    (λ eu.
-    ⊎-elim
-    (λ t.
-    let k : r .kind ≡ byteE = eqb-true (r .kind) byteE t in
-    let f = fields-fit byteE r e k in
-    empty-shape k (ltb-true (r .first) 32 (f .first-fits)) (eqb-true (r .second) 0 (f .second-fits))
-    (eqb-true (r .third) 0 (f .third-fits)))
-    (λ t.
-    let k : r .kind ≡ byteU = eqb-true (r .kind) byteU t in
-    let f = fields-fit byteU r e k in
-    unit-shape k (ltb-true (r .first) 32 (f .first-fits)) (ltb-true (r .second) 64 (f .second-fits))
-    (eqb-true (r .third) 0 (f .third-fits)))
-    (or-split (eqb (r .kind) byteE) (eqb (r .kind) byteU) eu))
-    (λ t.
-    let k : r .kind ≡ byteP = eqb-true (r .kind) byteP t in
-    let f = fields-fit byteP r e k in
-    pair-shape k (ltb-true (r .first) 32 (f .first-fits)) (ltb-true (r .second) 32 (f .second-fits))
-    (ltb-true (r .third) 32 (f .third-fits)))
-    (or-split (eqb (r .kind) byteE || eqb (r .kind) byteU) (eqb (r .kind) byteP) h)
+    (λ eu. ⊎-elim
+    (λ t. let k = eqb-true _ _ t in empty-shape k (fields-fit byteE r e k))
+    (λ t. let k = eqb-true _ _ t in unit-shape k (fields-fit byteU r e k)) (or-split _ _ eu))
+    (λ t. let k = eqb-true _ _ t in pair-shape k (fields-fit byteP r e k)) (or-split _ _ h)
 
--- the kind and the last two fields are bytes
-abbrev pub Bytes : JobRecord → Type 0
-Bytes r = (r .kind < 256) × (r .second < 256) × (r .third < 256)
+-- the kind is a byte, and the fields are in range
+abbrev pub Bounds : JobRecord → Type 0
+Bounds r = (r .kind < 256) × (r .first < 32) × (r .second < 64) × (r .third < 64)
 
-pub rule-bytes : {r : JobRecord} → RuleShape r → Bytes r
-rule-bytes (empty-shape k f s t) = omega arith
-rule-bytes (unit-shape k f s t) = omega arith
-rule-bytes (pair-shape k f s t) = omega arith
+pub shape-bounds : {r : JobRecord} → RuleShape r → Bounds r
+shape-bounds (empty-shape k f) = omega arith
+shape-bounds (unit-shape k f) = omega arith
+shape-bounds (pair-shape k f) = omega arith
 
 -- a number in base 256 has one last digit
 last-byte : (x y a b : ℕ) → a < 256 → b < 256 → x * 256 + a ≡ y * 256 + b → (x ≡ y) × (a ≡ b)
 last-byte x y a b p q e = omega arith
 
--- so the key tells records of bytes apart
-pub key-apart : (a b : JobRecord) → Bytes a → Bytes b → sortKey a ≡ sortKey b → a ≡ b
-key-apart a b p q e =
-    let (rest, third) = last-byte _ _ (a .third) (b .third) (p .2) (q .2) e in
-    let (more, second) = last-byte _ _ (a .second) (b .second) (p .1) (q .1) rest in
-    let (first, kind) = last-byte _ _ (a .kind) (b .kind) (p .0) (q .0) more in
+-- so the key tells rules that fit apart
+pub key-apart : (a b : JobRecord) → badField a ≡ 0 → isRule a ≡ true → badField b ≡ 0 → isRule b ≡ true
+    → sortKey a ≡ sortKey b
+    → a ≡ b
+key-apart a b f p g q e =
+    let m = shape-bounds (rule-shape a f p) in
+    let n = shape-bounds (rule-shape b g q) in
+    let (rest, third) = last-byte _ _ (a .third) (b .third) (omega arith) (omega arith) e in
+    let (more, second) = last-byte _ _ (a .second) (b .second) (omega arith) (omega arith) rest in
+    let (first, kind) = last-byte _ _ (a .kind) (b .kind) (m .0) (n .0) more in
     record-path a b kind first second third
 
 -- what a rule's record says

@@ -1,8 +1,7 @@
 -- What records that are not refused are, free of their order. Assumes nothing.
-use mathlib.Core.Path.{_≡_}
-use mathlib.Core.List.{List, [], _∷_, _++_, List·Memᴰ, List·Permᴰ, Permᴰ·symm, Memᴰ·append-left}
-use Prim.Native.Nat.{ℕ, _<_, _≤_}
-use native.Mathlib.Omega.{arith}
+use Rattle.grammar.proofs.Basics.{_≡_, sym, List, _∷_, [], List·Memᴰ, _++_, List·Permᴰ, Memᴰ·append-left, Permᴰ·symm}
+use Rattle.grammar.proofs.Basics.{ℕ, _<_, _≤_, arith}
+use native.Mathlib.Nat.{le-trans, le-of-eq}
 use Rattle.grammar.specs.Counting.{NoRepeat}
 use Rattle.job.specs.declared.JobRecord.{JobRecord}
 use Rattle.job.specs.declared.Limits.{Limits}
@@ -23,14 +22,18 @@ pub record Sound (limits : Limits) (rs : List JobRecord) : Type 0 where
 
 pub sound-permutes : (limits : Limits) {l m : List JobRecord} → List·Permᴰ l m → Sound limits l → Sound limits m
 sound-permutes limits d s =
-    record {
-      known = λ r n. s .known r (member-permutes (Permᴰ·symm d) n);
-      fitting = λ r n. s .fitting r (member-permutes (Permᴰ·symm d) n);
-      distinct = no-repeat-permutes d (s .distinct);
-      one-start = omega (arith, count-kind-permutes byteS d);
-      one-initial = omega (arith, count-kind-permutes byteI d);
-      few-rules = omega (arith, count-rules-permutes d);
-    }
+    search (
+      s .known,
+      s .fitting,
+      member-permutes,
+      Permᴰ·symm,
+      no-repeat-permutes,
+      le-trans,
+      le-of-eq,
+      sym,
+      count-kind-permutes,
+      count-rules-permutes,
+    )
 
 -- the front of a list counts no more than the list
 count-kind-front : (k : ℕ) (l m : List JobRecord) → countKind k l ≤ countKind k (l ++ m)
@@ -45,11 +48,4 @@ count-rules-front (r ∷ rs) m = omega (arith, count-rules-front rs m)
 
 pub sound-front : (limits : Limits) (l m : List JobRecord) → Sound limits (l ++ m) → Sound limits l
 sound-front limits l m s =
-    record {
-      known = λ r n. s .known r (Memᴰ·append-left m n);
-      fitting = λ r n. s .fitting r (Memᴰ·append-left m n);
-      distinct = no-repeat-front l m (s .distinct);
-      one-start = omega (arith, count-kind-front byteS l m);
-      one-initial = omega (arith, count-kind-front byteI l m);
-      few-rules = omega (arith, count-rules-front l m);
-    }
+    search (s .known, s .fitting, Memᴰ·append-left, no-repeat-front, le-trans, count-kind-front, count-rules-front)

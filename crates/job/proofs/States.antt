@@ -1,18 +1,11 @@
 -- The number of states is the least number above each state that a record names: a maximum over the records of a
 -- maximum over each. Assumes nothing.
-use mathlib.Core.Path.{_≡_, refl, ap}
-use mathlib.Core.Logic.{_⊎_, inl, inr, ⊎-elim}
-use mathlib.Core.Bool.{_||_}
-use mathlib.Core.List.{List, [], _∷_, List·Memᴰ, List·Memᴰ·head, List·Memᴰ·tail}
-use Prim.Native.Nat.{ℕ, _<_, _≤_}
-use native.Mathlib.Omega.{arith}
-use lib.Dec.{eqb}
-use borrow.Author.Tests.{eqb-true}
+use Rattle.grammar.proofs.Basics.{refl, ap, ⊎-elim, inl, inr, _||_, List, _∷_, [], List·Memᴰ, List·Memᴰ·head}
+use Rattle.grammar.proofs.Basics.{List·Memᴰ·tail, ℕ, _<_, _≤_, arith, eqb, eqb-true, cases, or-split}
 use Rattle.job.specs.declared.JobRecord.{JobRecord}
 use Rattle.job.specs.Format.{byteT, byteI, byteF}
 use Rattle.job.specs.Job.{statesIn, statesOf}
 use Rattle.job.specs.Theorems.StateCount.{NamesState, StateCount}
-use Rattle.grammar.proofs.Basics.{cases, or-split}
 
 -- a state that a record names is below the number of that record
 named-below : (r : JobRecord) (q : ℕ) → NamesState r q → q < statesIn r
@@ -26,15 +19,13 @@ record-least : (r : JobRecord) (s : ℕ) → ((q : ℕ) → NamesState r q → q
 record-least r s above =
     cases (eqb (r .kind) byteT)
     (λ t.
-    let k : r .kind ≡ byteT = eqb-true (r .kind) byteT t in
+    let k = eqb-true (r .kind) byteT t in
     rw t (omega (arith, above (r .first) (inl (k, inl refl)), above (r .third) (inl (k, inr refl)))))
     (λ t.
     cases (eqb (r .kind) byteI || eqb (r .kind) byteF)
     (λ u.
-    let k : (r .kind ≡ byteI) ⊎ (r .kind ≡ byteF) =
-    ⊎-elim (λ v. inl (eqb-true (r .kind) byteI v)) (λ v. inr (eqb-true (r .kind) byteF v))
-    (or-split (eqb (r .kind) byteI) (eqb (r .kind) byteF) u) in
-    rw (t, u) (above (r .first) (inr (k, refl))))
+    rw (t, u) (above (r .first)
+    (inr (⊎-elim (λ v. inl (eqb-true _ _ v)) (λ v. inr (eqb-true _ _ v)) (or-split _ _ u), refl))))
     (λ u. rw (t, u) (omega arith)))
 
 -- the same for all records

@@ -1,10 +1,5 @@
 -- The ways through the checks of the report: the tests in turn. Assumes nothing.
-use mathlib.Core.Path.{_≡_}
-use mathlib.Core.Bool.{true}
-use mathlib.Core.List.{List}
-use Prim.Native.Nat.{ℕ, _≤_, _<_}
-use lib.ListN.{length}
-use borrow.Author.Tests.{lt-ltb, le-ltb}
+use Rattle.grammar.proofs.Basics.{_≡_, true, List, ℕ, _<_, _≤_, length, lt-ltb, le-ltb}
 use Rattle.job.specs.Check.{checkOf, fullLimits, refused}
 use Rattle.saturation.specs.Table.{Lent, tableSize, reasonsSize}
 use Rattle.reporting.specs.Operation.{reportCheck}

@@ -1,13 +1,7 @@
 -- A report that is not refused runs through: start and the steps keep the lengths of what is lent, so the checks of
 -- each call pass as those of the report do. Assumes nothing.
-use mathlib.Core.Path.{_≡_, refl, sym, _∙_, ap}
-use mathlib.Core.Bool.{true, false}
-use mathlib.Core.List.{List, [], _∷_}
-use Prim.Native.Nat.{ℕ, _≤_}
-use native.Mathlib.Omega.{arith}
-use lib.Dec.{ltb}
-use lib.ListN.{length}
-use borrow.Author.Tests.{eq-eqb, le-ltb, ltb-false}
+use Rattle.grammar.proofs.Basics.{_≡_, refl, _∙_, sym, ap, true, false, List, _∷_, [], ℕ, _≤_, arith, ltb, length}
+use Rattle.grammar.proofs.Basics.{eq-eqb, ltb-false, le-ltb}
 use Rattle.job.specs.declared.Checked.{Checked}
 use Rattle.job.specs.Check.{checkOf, fullLimits, orElse, shortTable, shortReasons, shortCodes}
 use Rattle.job.specs.Accepted.{Accepted}
@@ -88,8 +82,7 @@ module _ (job : List ℕ) (ok : Accepted true job) where
       number-of (ask-form job table form (checkOf fullLimits true job) long refl (number-of c refl)) form-passes in
       rw (eq-eqb (askCheck job table form .number) 0 z)
 
-  verdicts-number :
-      (table codes : List ℕ) → tableSize ≤ length table → 64 ≤ length codes →
+  verdicts-number : (table codes : List ℕ) → tableSize ≤ length table → 64 ≤ length codes →
       verdictsOf job table codes .answer .number ≡ 0
   unfolding verdictsCheck verdictsOn
   verdicts-number table codes long enough =
@@ -128,8 +121,7 @@ runs-through job m codes e =
     let ok = p .ok in
     let z = machine-passes job ok m (p .long) (p .long-reasons) in
     let s : Lent = startOf job m .lent in
-    let t : tableSize ≤ length (s .table) =
-    rw (start-lent job m z, started-length (jobOf job) m) (p .long) in
+    let t : tableSize ≤ length (s .table) = rw (start-lent job m z, started-length (jobOf job) m) (p .long) in
     let r : reasonsSize ≤ length (s .reasons) =
     rw (start-lent job m z, started-length-reasons (jobOf job) m) (p .long-reasons) in
     let y = machine-passes job ok s t r in

@@ -1,27 +1,23 @@
 -- A certificate for a grammar on file, and the test that it certifies all that is said of the grammar: each fact has a
 -- test over the certificate's lists, which the prover computes. Assumes nothing.
-use mathlib.Core.Bool.{Bool, true, false, not, _&&_, Bool·beq}
-use mathlib.Core.List.{List}
-use Prim.Native.Nat.{ℕ}
-use lib.Dec.{eqb}
-use lib.ListN.{length, getD}
+use Rattle.grammar.proofs.Basics.{true, false, Bool, _&&_, not, List, ℕ, eqb, length, getD}
+use mathlib.Core.Bool.{Bool·beq}
 use Rattle.grammar.specs.Rule.{Rule}
 use Rattle.grammar.proofs.CertificateTests.{Triple, every, every-below, has, hasSymbol}
-use Rattle.grammar.proofs.CertificateClosure.{Line, transitions}
+use Rattle.grammar.proofs.CertificateClosure.{finishes}
 use Rattle.grammar.proofs.CertificateMeetings.{joins}
 use Rattle.grammar.proofs.CertificateSymbols.{generates}
 use Rattle.grammar.proofs.CertificateCycle.{certifiedCycle, certifiedRank}
 use Rattle.grammar.proofs.Certificate.{closureCertified, symbolsCertified}
 use Rattle.grammar.proofs.CertificateVerdicts.{useful}
 use Rattle.job.specs.Format.{recordsOf, badField}
-use Rattle.job.specs.Format as format
 use Rattle.job.specs.Check.{checkOf, fullLimits, firstFault, fault, recordPlace, countKind, countRules, missing}
 use Rattle.job.specs.Job.{Job, jobOf, jobOfRecords, sortedRules, insert, ruleOf, fieldOf, statesOf}
 use Rattle.verdicts.specs.Sets.{anyIn, anyRule}
 use Rattle.verdicts.specs.Verdicts.{isNamed}
 use Rattle.ropeclover.specs.Filed.{Fact, Filed}
 use Rattle.job.proofs.GivenTriples.{givenTriples}
-use Rattle.ropeclover.proofs.FiledForms.{finishes}
+use Rattle.job.specs.Format as format
 
 -- what shows whether a grammar grows: a pair rule from A to X with the symbols of a way back to A; the ranks of the
 -- symbols from 0 on, 0 for those past the list; nothing, where no fact asks for it
@@ -30,16 +26,13 @@ pub data Growth : Type 0 where
   ranks : List ℕ → Growth
   unsaid : Growth
 
--- the transitions of the smallest set with the way in which each comes in, the variables that generate, the symbols
--- that are reached
+-- the transitions of the smallest set, the variables that generate and the symbols that are reached, each after those
+-- that it comes from
 pub record Certificate : Type 0 where
-  pub lines : List Line
+  pub transitions : List Triple
   pub generating : List ℕ
   pub reached : List ℕ
   pub growth : Growth
-
-abbrev pub triplesOf : Certificate → List Triple
-triplesOf c = transitions (c .lines)
 
 -- the growth shows the answer
 abbrev pub shows : (ℕ → Bool) → List Rule → Growth → Bool → Bool
@@ -59,12 +52,12 @@ codeBy true true true = 1
 -- the certificate shows a fact of a job; a form starts at an initial state, so an I is needed
 abbrev pub factCertified : Bool → Job → Certificate → Fact → Bool
 factCertified needed J c (Fact.states n) = eqb (J .states) n
-factCertified needed J c (Fact.examined n) = eqb (length (c .lines)) n
-factCertified needed J c (Fact.joins n) = eqb (joins (J .rules) (triplesOf c)) n
+factCertified needed J c (Fact.examined n) = eqb (length (c .transitions)) n
+factCertified needed J c (Fact.joins n) = eqb (joins 32 (c .transitions) (J .rules)) n
 factCertified needed J c (Fact.variablesLead q r As) =
-    every-below (λ A. Bool·beq (has (triplesOf c) q A r) (hasSymbol As A)) 32
+    every-below (λ A. Bool·beq (has (c .transitions) q A r) (hasSymbol As A)) 32
 factCertified needed J c (Fact.acceptsForm form answer) =
-    needed && Bool·beq (finishes (triplesOf c) (J .final) form (J .initial)) answer
+    needed && Bool·beq (finishes (c .transitions) (J .final) form (J .initial)) answer
 factCertified needed J c (Fact.isEmpty answer) = Bool·beq (generates (c .generating) (J .start)) (not answer)
 factCertified needed J c (Fact.isGrowing answer) =
     shows (useful (c .generating) (c .reached)) (J .rules) (c .growth) answer
@@ -76,9 +69,10 @@ unfoldable pub passes : Bool → List ℕ → Bool
 unfolding checkOf firstFault recordsOf fault recordPlace badField format.has countKind countRules missing
 passes needed job = eqb (checkOf fullLimits needed job .number) 0 && eqb (checkOf fullLimits needed job .place) 0
 
--- the lines are the smallest set of the job
+-- the transitions are the smallest set of the job
 abbrev pub closureTest : (job : List ℕ) → Certificate → Bool
-closureTest job c = closureCertified (jobOf job .rules) (givenTriples (recordsOf job)) (jobOf job .states) (c .lines)
+closureTest job c =
+    closureCertified (jobOf job .rules) (givenTriples (recordsOf job)) (jobOf job .states) (c .transitions)
 
 -- the two lists are the variables that generate and the symbols that are reached
 abbrev pub symbolsTest : (job : List ℕ) → Certificate → Bool

@@ -4,13 +4,10 @@ pub mod LentKept
 pub mod SinceStart
 pub mod SideBySide
 pub mod CallsAlike
-pub mod ExplainAlike
-pub mod VerdictsAlike
 pub mod RunKept
 pub mod RunCounts
 pub mod TwoRunsAlike
 pub mod Finished
-pub mod FiledForms
 pub mod FiledTests
 pub mod FiledRight
 pub mod FiledCertificates

@@ -1,130 +1,90 @@
--- What each operation leaves, by whether the call's check refuses it: the two cases of each definition. Assumes
--- nothing.
-use mathlib.Core.Path.{_≡_, refl, sym, _∙_, ap}
-use mathlib.Core.Bool.{Bool, false}
-use mathlib.Core.List.{List}
-use Prim.Native.Nat.{ℕ}
-use lib.Dec.{eqb}
-use borrow.Author.Tests.{eqb-true, eqb-false, ne-eqb}
-use Rattle.grammar.proofs.Basics.{cases}
+-- What a call leaves, by whether its check refuses it: the two cases of each operation's definition. Assumes nothing.
+use Rattle.grammar.proofs.Basics.{_≡_, refl, false, cond, List, [], ℕ, eqb, eqb-true, eqb-false, cases}
 use Rattle.job.specs.declared.Checked.{Checked}
 use Rattle.job.specs.Job.{Job, jobOf}
 use Rattle.saturation.specs.Table.{Lent, statuses}
-use Rattle.saturation.specs.Start.{started}
 use Rattle.saturation.specs.Step.{isFinished}
 use Rattle.saturation.specs.Advance.{steps, stepsMade, meetingsMade}
-use Rattle.saturation.specs.Operations.{machineCheck, StartOutcome, startOf, AdvanceOutcome, advanceOf}
-use Rattle.forms.specs.declared.Asked.{Asked}
-use Rattle.forms.specs.Operations.{acceptsOn, askCheck, askOf}
-use Rattle.forms.specs.Operations.{explainCheck, explainRefused, finishedFrom, explainFinished, explainOf}
-use Rattle.verdicts.specs.Operation.{verdictsCheck, VerdictsOutcome, verdictsLeave, verdictsOf}
-use Rattle.verdicts.proofs.Outcome as outcome
+use Rattle.saturation.specs.Operations.{machineCheck, startOf, advanceOf}
+use Rattle.forms.specs.Operations.{acceptsOn, askCheck, askOf, explainCheck, finishedFrom, explainFinished, explainOf}
+use Rattle.verdicts.specs.Operation.{verdictsCheck, verdictsOf, verdictsOn}
+use Rattle.ropeclover.specs.Call.{Call, start, advance, ask, explain, verdicts, CallOutcome, outcomeOf, Answer}
+use Rattle.ropeclover.specs.Call.{started, advanced, asked, explained, judged}
+use Rattle.ropeclover.specs.Alike.{ownOf}
+use Rattle.ropeclover.proofs.CallChecks.{callCheck}
+use Rattle.saturation.specs.Start as saturation
 
--- a number is 0 or not
-pub zero-or-not : {P : Type 0} (n : ℕ) → (n ≡ 0 → P) → ((n ≡ 0 → ⊥) → P) → P
-zero-or-not n f g = cases (eqb n 0) (λ t. f (eqb-true n 0 t)) (λ t. g (eqb-false n 0 t))
-
--- start
-abbrev pub startGiven : Job → Lent → StartOutcome
-startGiven J m = record { answer = record { number = 0; place = 0; states = J .states }; lent = started J m }
-
-abbrev pub startRefused : Checked → Lent → StartOutcome
-startRefused c m = record { answer = record { number = c .number; place = c .place; states = 0 }; lent = m }
-
-pub start-given : (job : List ℕ) (m : Lent) → machineCheck job m .number ≡ 0 → startOf job m ≡ startGiven (jobOf job) m
-unfolding startOf
-start-given job m e = rw e
-
-pub start-refused : (job : List ℕ) (m : Lent) → (machineCheck job m .number ≡ 0 → ⊥)
-    → startOf job m ≡ startRefused (machineCheck job m) m
-unfolding startOf
-start-refused job m n = rw (ne-eqb (machineCheck job m .number) 0 n)
-
--- advance
-abbrev pub advanceGiven : Job → Lent → ℕ → AdvanceOutcome
-advanceGiven J m n =
+-- what a call that is not refused leaves
+unfoldable pub given : Job → Lent → Call → CallOutcome
+given J m start =
+    record {
+      answer = started (record { number = 0; place = 0; states = J .states });
+      own = [];
+      lent = saturation.started J m;
+    }
+given J m (advance n) =
     record {
       answer =
-          record {
+          advanced (record {
             number = 0;
             place = 0;
             finished = isFinished (statuses (steps (J .rules) n m .table));
             steps = stepsMade (J .rules) n m;
             meetings = meetingsMade (J .rules) n m;
-          };
+          });
+      own = [];
       lent = steps (J .rules) n m;
     }
-
-abbrev pub advanceRefused : Checked → Lent → AdvanceOutcome
-advanceRefused c m =
+given J m (ask form) =
     record {
-      answer = record {
-        number = c .number;
-        place = c .place;
-        finished = false;
-        steps = 0;
-        meetings = 0;
-      };
+      answer = asked (record { number = 0; place = 0; accepted = acceptsOn J (m .table) form });
+      own = [];
       lent = m;
     }
+given J m (explain form out) =
+    let o = explainFinished J (finishedFrom J m) form out in
+    record { answer = explained (o .answer); own = o .listing; lent = o .lent }
+given J m (verdicts codes) =
+    let o = verdictsOn J (m .table) codes in
+    record { answer = judged (o .answer); own = o .codes; lent = record { table = o .table; reasons = m .reasons } }
 
-pub advance-given :
-    (job : List ℕ) (m : Lent) (n : ℕ) → machineCheck job m .number ≡ 0 → advanceOf job m n ≡ advanceGiven
-    (jobOf job) m n
-unfolding advanceOf
-advance-given job m n e = rw e
+-- what a refused one answers, and what it leaves
+unfoldable pub refusal : Checked → Call → Answer
+refusal x start = started (record { number = x .number; place = x .place; states = 0 })
+refusal x (advance n) =
+    advanced (record { number = x .number; place = x .place; finished = false; steps = 0; meetings = 0 })
+refusal x (ask form) = asked (record { number = x .number; place = x .place; accepted = false })
+refusal x (explain form out) =
+    explained (record { number = x .number; place = x .place; accepted = false; records = 0 })
+refusal x (verdicts codes) = judged (record { number = x .number; place = x .place; empty = false; growing = false })
 
-pub advance-refused :
-    (job : List ℕ) (m : Lent) (n : ℕ) → (machineCheck job m .number ≡ 0 → ⊥) → advanceOf job m n ≡ advanceRefused
-    (machineCheck job m) m
-unfolding advanceOf
-advance-refused job m n e = rw (ne-eqb (machineCheck job m .number) 0 e)
+abbrev pub refused : Checked → Lent → Call → CallOutcome
+refused x m c = record { answer = refusal x c; own = ownOf c; lent = m }
 
--- ask
-abbrev pub askGiven : Bool → Asked
-askGiven is = record { number = 0; place = 0; accepted = is }
+outcome-is : (job : List ℕ) (m : Lent) (c : Call) →
+    outcomeOf job m c
+    ≡ cond (eqb (callCheck job m c .number) 0) (given (jobOf job) m c) (refused (callCheck job m c) m c)
+unfolding outcomeOf callCheck given refusal startOf advanceOf askOf explainOf verdictsOf
+outcome-is job m start = cases (eqb (machineCheck job m .number) 0) (λ t. rw t) (λ t. rw t)
+outcome-is job m (advance n) = cases (eqb (machineCheck job m .number) 0) (λ t. rw t) (λ t. rw t)
+outcome-is job m (ask form) = cases (eqb (askCheck job (m .table) form .number) 0) (λ t. rw t) (λ t. rw t)
+outcome-is job m (explain form out) = cases (eqb (explainCheck job m form .number) 0) (λ t. rw t) (λ t. rw t)
+outcome-is job m (verdicts codes) = cases (eqb (verdictsCheck job (m .table) codes .number) 0) (λ t. rw t) (λ t. rw t)
 
-abbrev pub askRefused : Checked → Asked
-askRefused c = record { number = c .number; place = c .place; accepted = false }
+-- what holds of two calls with one check and one job, in both cases
+pub both-by-check : (P : CallOutcome → CallOutcome → Type 0) (a b : List ℕ) (m n : Lent) (c d : Call) →
+    callCheck a m c ≡ callCheck b n d → jobOf a ≡ jobOf b →
+    (callCheck a m c .number ≡ 0 → P (given (jobOf a) m c) (given (jobOf a) n d)) →
+    ((callCheck a m c .number ≡ 0 → ⊥) → P (refused (callCheck a m c) m c) (refused (callCheck a m c) n d)) →
+    P (outcomeOf a m c) (outcomeOf b n d)
+both-by-check P a b m n c d check jobs passes refuses =
+    rw (outcome-is a m c, outcome-is b n d, ← check, ← jobs)
+    (cases (eqb (callCheck a m c .number) 0)
+    (λ t. rw t (passes (eqb-true (callCheck a m c .number) 0 t)))
+    (λ t. rw t (refuses (eqb-false (callCheck a m c .number) 0 t))))
 
-pub ask-given :
-    (job table form : List ℕ) → askCheck job table form .number ≡ 0 →
-    askOf job table form ≡ askGiven (acceptsOn (jobOf job) table form)
-unfolding askOf
-ask-given job table form e = rw e
-
-pub ask-refused :
-    (job table form : List ℕ) → (askCheck job table form .number ≡ 0 → ⊥) → askOf job table form ≡ askRefused
-    (askCheck job table form)
-unfolding askOf
-ask-refused job table form n = rw (ne-eqb (askCheck job table form .number) 0 n)
-
--- explain, where what it leaves on a finished table is still to be said
-pub explain-given :
-    (job : List ℕ) (m : Lent) (form listing : List ℕ) → explainCheck job m form .number ≡ 0 →
-    explainOf job m form listing ≡ explainFinished (jobOf job) (finishedFrom (jobOf job) m) form listing
-unfolding explainOf
-explain-given job m form listing e = rw e
-
-pub explain-refused :
-    (job : List ℕ) (m : Lent) (form listing : List ℕ) → (explainCheck job m form .number ≡ 0 → ⊥) →
-    explainOf job m form listing ≡ explainRefused (explainCheck job m form) m listing
-unfolding explainOf
-explain-refused job m form listing n = rw (ne-eqb (explainCheck job m form .number) 0 n)
-
--- verdicts
-abbrev pub verdictsRefused : Checked → List ℕ → List ℕ → VerdictsOutcome
-verdictsRefused c table codes =
-    verdictsLeave (record { number = c .number; place = c .place; empty = false; growing = false }) table codes
-
-pub verdicts-refused :
-    (job table codes : List ℕ) → (verdictsCheck job table codes .number ≡ 0 → ⊥) →
-    verdictsOf job table codes ≡ verdictsRefused (verdictsCheck job table codes) table codes
-verdicts-refused job table codes n = outcome.verdicts-refused job table codes (verdictsCheck job table codes) refl n
-
--- a start is refused by its check's number
-pub start-number : (job : List ℕ) (m : Lent) → startOf job m .answer .number ≡ machineCheck job m .number
-start-number job m =
-    zero-or-not (machineCheck job m .number)
-    (λ e. ap (λ o. o .answer .number) (start-given job m e) ∙ sym e)
-    (λ n. ap (λ o. o .answer .number) (start-refused job m n))
+-- and of one
+pub by-check : (P : CallOutcome → Type 0) (job : List ℕ) (m : Lent) (c : Call) →
+    (callCheck job m c .number ≡ 0 → P (given (jobOf job) m c)) →
+    ((callCheck job m c .number ≡ 0 → ⊥) → P (refused (callCheck job m c) m c)) → P (outcomeOf job m c)
+by-check P job m c = both-by-check (λ o u. P o) job job m m c c refl refl

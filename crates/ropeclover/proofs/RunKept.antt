@@ -1,102 +1,65 @@
 -- In a run each call keeps lengths, all past the first part of what is lent, and all past what it writes of its own
 -- buffer. Assumes nothing.
-use mathlib.Core.Path.{_≡_, refl, sym, ap, subst}
-use mathlib.Core.Bool.{false, cond}
-use mathlib.Core.List.{List, [], _∷_}
-use Prim.Native.Nat.{ℕ}
-use lib.Dec.{eqb}
-use lib.ListN.{drop}
+use Rattle.grammar.proofs.Basics.{_≡_, refl, false, List, _∷_, [], ℕ, drop}
 use Rattle.job.specs.Accepted.{Accepted}
 use Rattle.job.specs.Job.{jobOf}
 use Rattle.job.proofs.AcceptedFacts.{in-range}
 use Rattle.job.proofs.Clearing.{cleared-length, cleared-past}
 use Rattle.saturation.specs.Table.{Lent, KeepsRest}
-use Rattle.forms.specs.Operations.{explainCheck, finishedFrom, explainFinished, explainOf}
+use Rattle.saturation.proofs.Starts.StartLaws.{started-keeps-rest}
+use Rattle.saturation.proofs.Steps.StepLaws.{steps-keep-rest}
+use Rattle.forms.specs.Operations.{finishedFrom, explainFinished}
 use Rattle.forms.proofs.AskAnswers.{initial-state}
-use Rattle.verdicts.specs.Verdicts.{codeOf}
-use Rattle.verdicts.specs.Operation.{verdictsCheck, VerdictsOutcome, verdictsOf, verdictsOn}
-use Rattle.verdicts.proofs.Filling.{written-rest}
-use Rattle.verdicts.proofs.Outcome.{verdicts-given}
-use Rattle.ropeclover.specs.Call.{Call, start, advance, ask, explain, verdicts, outcomeOf, runOf}
-use Rattle.ropeclover.specs.Alike.{ownWritten, ownOf, Unwritten, none, more}
-use Rattle.ropeclover.proofs.CallChecks.{explain-passed}
-use Rattle.forms.proofs.ExplainCases.{PastKept, explain-past}
+use Rattle.forms.proofs.ExplainCases.{explain-past}
+use Rattle.forms.proofs.ExplainChecks.{explain-passed}
 use Rattle.forms.proofs.ExplainLaws.{explain-keeps}
-use Rattle.ropeclover.proofs.Outcomes.{zero-or-not, verdicts-refused, explain-given, explain-refused}
-use Rattle.ropeclover.proofs.LentKept.{keeps-refl, keeps-trans, run-keeps, start-keeps, advance-keeps}
+use Rattle.verdicts.specs.Verdicts.{codeOf}
+use Rattle.verdicts.specs.Operation.{verdictsOn}
+use Rattle.verdicts.proofs.Filling.{written-rest}
+use Rattle.ropeclover.specs.Call.{Call, start, advance, ask, explain, verdicts, CallOutcome, outcomeOf, runOf}
+use Rattle.ropeclover.specs.Alike.{ownWritten, ownOf, Unwritten, none, more}
+use Rattle.ropeclover.proofs.CallChecks.{callCheck}
+use Rattle.ropeclover.proofs.Outcomes.{given, by-check}
+use Rattle.ropeclover.proofs.LentKept.{keeps-refl, keeps-trans, run-keeps}
+
+-- past what a call may write its own buffer is as it was
+abbrev OwnKept : Call → CallOutcome → Type 0
+OwnKept c o = drop (ownWritten (o .answer)) (o .own) ≡ drop (ownWritten (o .answer)) (ownOf c)
 
 module _ (job : List ℕ) (ok : Accepted false job) where
-  explain-call-keeps : (m : Lent) (form out : List ℕ) → KeepsRest m (explainOf job m form out .lent)
-  explain-call-keeps m form out =
-      zero-or-not (explainCheck job m form .number)
-      (λ e.
-      let (passed, fit) = explain-passed job m form e in
+  given-keeps : (m : Lent) (c : Call) → callCheck job m c .number ≡ 0 → KeepsRest m (given (jobOf job) m c .lent)
+  unfolding given callCheck verdictsOn
+  given-keeps m start e = started-keeps-rest (jobOf job) m
+  given-keeps m (advance n) e = steps-keep-rest (jobOf job .rules) n m
+  given-keeps m (ask form) e = keeps-refl m
+  given-keeps m (explain form out) e =
+      let (passed, fits) = explain-passed job m form _ refl e in
       let J = jobOf job in
       let now = finishedFrom J m in
-      subst (λ o. KeepsRest m (o .lent)) (sym (explain-given job m form out e))
-      (keeps-trans m now (explainFinished J now form out .lent) (run-keeps job m 65536)
-      (explain-keeps J (in-range ok) (initial-state (passed .ok)) form fit now out)))
-      (λ r. subst (λ o. KeepsRest m (o .lent)) (sym (explain-refused job m form out r)) (keeps-refl m))
-
-  explain-call-past : (m : Lent) (form out : List ℕ) → PastKept out (explainOf job m form out)
-  explain-call-past m form out =
-      zero-or-not (explainCheck job m form .number)
-      (λ e. subst (PastKept out) (sym (explain-given job m form out e))
-      (explain-past (jobOf job) (finishedFrom (jobOf job) m) form out))
-      (λ r. subst (PastKept out) (sym (explain-refused job m form out r)) refl)
-
-  verdicts-keeps :
-      (m : Lent) (codes : List ℕ) →
-      KeepsRest m (record { table = verdictsOf job (m .table) codes .table; reasons = m .reasons })
-  unfolding verdictsOn
-  verdicts-keeps m codes =
-      let left : VerdictsOutcome → Lent = λ o. record { table = o .table; reasons = m .reasons } in
-      zero-or-not (verdictsCheck job (m .table) codes .number)
-      (λ e.
-      subst (λ o. KeepsRest m (left o)) (sym (verdicts-given job (m .table) codes e))
-      (record {
+      keeps-trans m now (explainFinished J now form out .lent) (run-keeps job m 65536)
+      (explain-keeps J (in-range ok) (initial-state (passed .ok)) form (fits .symbols) now out)
+  given-keeps m (verdicts codes) e =
+      record {
         long-table = cleared-length 65536 (m .table);
         long-reasons = refl;
         rest-table = cleared-past 65536 (m .table);
         rest-reasons = refl;
-      }))
-      (λ r. subst (λ o. KeepsRest m (left o)) (sym (verdicts-refused job (m .table) codes r)) (keeps-refl m))
+      }
 
-  verdicts-past :
-      (t codes : List ℕ) →
-      drop (cond (eqb (verdictsOf job t codes .answer .number) 0) 64 0) (verdictsOf job t codes .codes)
-      ≡ drop (cond (eqb (verdictsOf job t codes .answer .number) 0) 64 0) codes
-  unfolding verdictsOn
-  verdicts-past t codes =
-      let past : VerdictsOutcome → Type 0 =
-      λ o. drop (cond (eqb (o .answer .number) 0) 64 0) (o .codes) ≡ drop
-      (cond (eqb (o .answer .number) 0) 64 0) codes in
-      zero-or-not (verdictsCheck job t codes .number)
-      (λ e.
-      subst past (sym (verdicts-given job t codes e))
-      (written-rest (codeOf (jobOf job .rules) (jobOf job .start)) 0 64 codes))
-      (λ r. subst past (sym (verdicts-refused job t codes r)) refl)
+  given-own : (m : Lent) (c : Call) → OwnKept c (given (jobOf job) m c)
+  unfolding given verdictsOn
+  given-own m start = refl
+  given-own m (advance n) = refl
+  given-own m (ask form) = refl
+  given-own m (explain form out) = explain-past (jobOf job) (finishedFrom (jobOf job) m) form out
+  given-own m (verdicts codes) = written-rest (codeOf (jobOf job .rules) (jobOf job .start)) 0 64 codes
 
   pub call-keeps : (m : Lent) (c : Call) → KeepsRest m (outcomeOf job m c .lent)
-  unfolding outcomeOf
-  call-keeps m start = start-keeps job m
-  call-keeps m (advance n) = advance-keeps job m n
-  call-keeps m (ask form) = keeps-refl m
-  call-keeps m (explain form out) = explain-call-keeps m form out
-  call-keeps m (verdicts codes) = verdicts-keeps m codes
-
-  own-kept :
-      (m : Lent) (c : Call) →
-      drop (ownWritten (outcomeOf job m c .answer)) (outcomeOf job m c .own) ≡ drop
-      (ownWritten (outcomeOf job m c .answer)) (ownOf c)
-  unfolding outcomeOf
-  own-kept m start = refl
-  own-kept m (advance n) = refl
-  own-kept m (ask form) = refl
-  own-kept m (explain form out) = explain-call-past m form out
-  own-kept m (verdicts codes) = verdicts-past (m .table) codes
+  call-keeps m c = by-check (λ o. KeepsRest m (o .lent)) job m c (given-keeps m c) (λ r. keeps-refl m)
 
   pub run-kept : (m : Lent) (cs : List Call) → Unwritten m cs (runOf job m cs)
   unfolding runOf
   run-kept m [] = none
-  run-kept m (c ∷ cs) = more (call-keeps m c) (own-kept m c) (run-kept (outcomeOf job m c .lent) cs)
+  run-kept m (c ∷ cs) =
+      more (call-keeps m c) (by-check (OwnKept c) job m c (λ e. given-own m c) (λ r. refl))
+      (run-kept (outcomeOf job m c .lent) cs)

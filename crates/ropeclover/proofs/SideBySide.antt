@@ -1,22 +1,19 @@
 -- Two runs side by side, before a call: the same records, the same lengths lent, and the same first part if that is
--- known. What a call that writes nothing leaves is alike. Assumes nothing.
-use mathlib.Core.Path.{_≡_, refl, sym, _∙_, ap}
-use mathlib.Core.Bool.{Bool, true, false, _||_}
-use mathlib.Core.List.{List}
-use Prim.Native.Nat.{ℕ}
-use lib.ListN.{take}
-use Rattle.job.specs.Check.{checkOf, fullLimits}
+-- known. A refused call is alike in both. Assumes nothing.
+use Rattle.grammar.proofs.Basics.{_≡_, refl, _∙_, sym, ap, true, false, Bool, _||_, List, ℕ, arith, ne-eqb}
+use Rattle.job.specs.declared.Checked.{Checked}
 use Rattle.job.specs.Accepted.{Accepted}
-use Rattle.job.specs.Job.{jobOf}
 use Rattle.job.specs.Order.{SameRecords}
-use Rattle.job.specs.Theorems.InRange.{InRange}
-use Rattle.job.proofs.AcceptedFacts as facts
-use Rattle.job.proofs.JobChecks.{check-alike}
-use Rattle.job.proofs.OrderFree.{accepted-same-job}
 use Rattle.saturation.specs.Table.{Lent}
 use Rattle.saturation.proofs.Steps.FirstPart.{first}
-use Rattle.ropeclover.specs.Call.{Answer, started, advanced, asked, explained, judged}
+use Rattle.forms.specs.Operations.{explainCheck}
+use Rattle.ropeclover.specs.Call.{Call, start, advance, ask, explain, verdicts, Answer, started, advanced, asked}
+use Rattle.ropeclover.specs.Call.{explained, judged}
+use Rattle.ropeclover.specs.Alike.{SameCall, same-start, same-advance, same-ask, same-explain, same-verdicts}
 use Rattle.ropeclover.specs.Alike.{SameLengths, SameFirst, AnswerAlike, CallAlike, ownWritten, settles}
+use Rattle.ropeclover.specs.Counts.{Counting, after}
+use Rattle.ropeclover.proofs.CallChecks.{callCheck, explain-number}
+use Rattle.ropeclover.proofs.Outcomes.{refusal, refused}
 
 -- the same first part, as an equation
 pub same-first : (m n : Lent) → first m ≡ first n → SameFirst m n
@@ -43,26 +40,40 @@ alike-itself (asked a) = tt
 alike-itself (explained a) = refl
 alike-itself (judged a) = refl
 
+same-refusal : (x : Checked) {c d : Call} → SameCall c d → refusal x c ≡ refusal x d
+unfolding refusal
+same-refusal x same-start = refl
+same-refusal x (same-advance n) = refl
+same-refusal x (same-ask form) = refl
+same-refusal x (same-explain form out other e) = refl
+same-refusal x (same-verdicts codes other e) = refl
+
+-- a refused call writes nothing, settles nothing and leaves the counting as it is
+pub call-refused : (job : List ℕ) (m : Lent) (c : Call) → Accepted false job → (callCheck job m c .number ≡ 0 → ⊥) →
+    let x = refusal (callCheck job m c) c in
+    (ownWritten x ≡ 0) × (settles x ≡ false) × ((k : Counting) → after k c x ≡ k)
+unfolding callCheck refusal
+call-refused job m start ok r = let z = ne-eqb _ 0 r in (refl, z, λ k. rw z)
+call-refused job m (advance n) ok r = let z = ne-eqb _ 0 r in (refl, refl, λ k. rw z)
+call-refused job m (ask form) ok r = (refl, refl, λ k. refl)
+call-refused job m (explain form out) ok r =
+    let number = explain-number job m form ok in
+    let z = ne-eqb _ 0 r in
+    let t = ne-eqb (explainCheck job m form .number) 13 (λ e. omega arith) in
+    (refl, rw (z, t), λ k. rw (z, t))
+call-refused job m (verdicts codes) ok r = let z = ne-eqb _ 0 r in (rw z, search, λ k. search z)
+
 module _ (a b : List ℕ) (m n : Lent) (known : Bool) (runs : SideBySide a b m n known) where
-  pub same-jobs : jobOf a ≡ jobOf b
-  same-jobs = accepted-same-job (runs .records) (runs .ok)
-
-  pub same-checks : (needed : Bool) → checkOf fullLimits needed a ≡ checkOf fullLimits needed b
-  same-checks needed = check-alike needed (runs .records) (runs .ok)
-
-  pub in-range : InRange (jobOf a)
-  in-range = facts.in-range (runs .ok)
-
-  -- a call that gives the same answer in both and writes nothing
-  pub unwritten-alike :
-      (x : Answer) (own other : List ℕ) → ownWritten x ≡ 0 → settles x ≡ false →
-      CallAlike known (record { answer = x; own = own; lent = m }) (record { answer = x; own = other; lent = n })
-  unwritten-alike x own other none unsettled =
-      record {
+  pub refused-alike : {c d : Call} → SameCall c d → (callCheck a m c .number ≡ 0 → ⊥) →
+      CallAlike known (refused (callCheck a m c) m c) (refused (callCheck a m c) n d)
+  refused-alike {c} same r =
+      let (unwritten, unsettled, uncounted) = call-refused a m c (runs .ok) r in
+      rw (← same-refusal (callCheck a m c) same)
+      (record {
         number = refl;
         place = refl;
-        always = alike-itself x;
-        written = ap (λ k. take k own) none ∙ sym (ap (λ k. take k other) none);
+        always = alike-itself (refusal (callCheck a m c) c);
+        written = rw unwritten;
         answer = λ k. refl;
-        lent = λ k. runs .alike (still-known known (settles x) unsettled k);
-      }
+        lent = λ k. runs .alike (still-known known (settles (refusal (callCheck a m c) c)) unsettled k);
+      })

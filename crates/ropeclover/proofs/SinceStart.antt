@@ -1,19 +1,14 @@
 -- Where a run stands after a start that is not refused and advances: what is lent, and the sums of the counts, are
 -- those of as many steps from the start as were asked for. Steps and counts add up, so an advance keeps this. Assumes
 -- nothing.
-use mathlib.Core.Path.{_≡_, refl, sym, _∙_, ap}
-use mathlib.Core.List.{List}
-use Prim.Native.Nat.{ℕ, _+_}
-use native.Mathlib.Omega.{arith}
+use Rattle.grammar.proofs.Basics.{_≡_, refl, _∙_, sym, ap, List, ℕ, _+_, arith}
 use Rattle.job.specs.Job.{jobOf}
-use Rattle.saturation.specs.Table.{Lent, statuses}
+use Rattle.saturation.specs.Table.{Lent}
 use Rattle.saturation.specs.Start.{started}
-use Rattle.saturation.specs.Step.{isFinished}
 use Rattle.saturation.specs.Advance.{steps, stepsMade, meetingsMade}
-use Rattle.saturation.specs.Operations.{machineCheck, startOf, advanceOf}
+use Rattle.saturation.specs.Operations.{machineCheck}
 use Rattle.saturation.proofs.Steps.StepLaws.{steps-add, steps-made-add}
 use Rattle.saturation.proofs.Steps.MeetingsMade.{meetings-made-add}
-use Rattle.ropeclover.proofs.Outcomes.{start-given, advance-given}
 use Rattle.ropeclover.proofs.LentKept.{run-keeps, number-stays}
 
 -- `from` is what was lent to the start
@@ -25,16 +20,9 @@ pub record Since (job : List ℕ) (m : Lent) (asked made met : ℕ) : Type 0 whe
   pub meetingsSo : met ≡ meetingsMade (jobOf job .rules) asked (started (jobOf job) from)
 
 module _ (job : List ℕ) where
-  pub since-start : (m : Lent) → machineCheck job m .number ≡ 0 → Since job (startOf job m .lent) 0 0 0
+  pub since-start : (m : Lent) → machineCheck job m .number ≡ 0 → Since job (started (jobOf job) m) 0 0 0
   unfolding steps stepsMade meetingsMade
-  since-start m e =
-      record {
-        from = m;
-        passed = e;
-        lent = ap (λ o. o .lent) (start-given job m e);
-        stepsSo = refl;
-        meetingsSo = omega arith;
-      }
+  since-start m e = record { from = m; passed = e; lent = refl; stepsSo = refl; meetingsSo = omega arith }
 
   module _ (m : Lent) (a s k : ℕ) (since : Since job m a s k) where
     -- neither start nor advance is refused
@@ -44,29 +32,16 @@ module _ (job : List ℕ) where
         (number-stays job (since .from) (steps (jobOf job .rules) a (started (jobOf job) (since .from)))
         (run-keeps job (since .from) a) (since .passed))
 
-    pub since-advance :
-        (n : ℕ) →
-        Since job (advanceOf job m n .lent) (a + n) (s + advanceOf job m n .answer .steps)
-        (k + advanceOf job m n .answer .meetings)
-    since-advance n =
+    pub since-steps : (n : ℕ) →
+        Since job (steps (jobOf job .rules) n m) (a + n) (s + stepsMade (jobOf job .rules) n m)
+        (k + meetingsMade (jobOf job .rules) n m)
+    since-steps n =
         let ρs = jobOf job .rules in
         let now = started (jobOf job) (since .from) in
-        let given = advance-given job m n since-passes in
-        let made : advanceOf job m n .answer .steps ≡ stepsMade ρs n (steps ρs a now) =
-        ap (λ o. o .answer .steps) given ∙ ap (stepsMade ρs n) (since .lent) in
-        let met : advanceOf job m n .answer .meetings ≡ meetingsMade ρs n (steps ρs a now) =
-        ap (λ o. o .answer .meetings) given ∙ ap (meetingsMade ρs n) (since .lent) in
         record {
           from = since .from;
           passed = since .passed;
-          lent = ap (λ o. o .lent) given ∙ ap (steps ρs n) (since .lent) ∙ sym (steps-add ρs a n now);
-          stepsSo = omega (arith, since .stepsSo, steps-made-add ρs a n now);
-          meetingsSo = omega (arith, since .meetingsSo, meetings-made-add ρs a n now);
+          lent = ap (steps ρs n) (since .lent) ∙ sym (steps-add ρs a n now);
+          stepsSo = rw (since .lent) (omega (arith, since .stepsSo, steps-made-add ρs a n now));
+          meetingsSo = rw (since .lent) (omega (arith, since .meetingsSo, meetings-made-add ρs a n now));
         }
-
-    -- what an advance says of the table that it leaves
-    pub since-finished : (n : ℕ)
-        → advanceOf job m n .answer .finished ≡ isFinished (statuses (advanceOf job m n .lent .table))
-    since-finished n =
-        let given = advance-given job m n since-passes in
-        ap (λ o. o .answer .finished) given ∙ sym (ap (λ o. isFinished (statuses (o .lent .table))) given)

@@ -1,13 +1,7 @@
 -- The checks of start and advance: where they refuse nothing, what is lent is long enough and the job is accepted. By
 -- the tests in turn. Assumes nothing.
-use mathlib.Core.Path.{_≡_, refl, sym, _∙_, ap}
-use mathlib.Core.Bool.{Bool, true, false, cond}
-use mathlib.Core.List.{List}
-use Prim.Native.Nat.{ℕ, _≤_, _<_}
-use native.Mathlib.Omega.{arith}
-use lib.Dec.{ltb}
-use lib.ListN.{length}
-use borrow.Author.Tests.{ltb-false, lt-ltb, le-ltb}
+use Rattle.grammar.proofs.Basics.{_≡_, refl, true, false, Bool, cond, List, ℕ, _<_, _≤_, arith, length, ltb-false}
+use Rattle.grammar.proofs.Basics.{lt-ltb, le-ltb}
 use Rattle.job.specs.declared.Checked.{Checked}
 use Rattle.job.specs.Check.{checkOf, fullLimits, refused, accepted, orElse}
 use Rattle.job.specs.Accepted.{Accepted}
@@ -21,8 +15,7 @@ pub record Passed (job : List ℕ) (m : Lent) : Type 0 where
   pub long-reasons : reasonsSize ≤ length (m .reasons)
   pub ok : Accepted true job
 
-each-passed :
-    (a b : Bool) (d : Checked) →
+each-passed : (a b : Bool) (d : Checked) →
     orElse (orElse (cond a (refused 10 1) accepted) (cond b (refused 10 2) accepted)) d .number ≡ 0 →
     (a ≡ false) × (b ≡ false) × (d .number ≡ 0)
 each-passed true b d e = absurd (omega arith)
@@ -33,27 +26,24 @@ module _ (job : List ℕ) (m : Lent) where
   pub machine-passed : (c : Checked) → c ≡ machineCheck job m → c .number ≡ 0 → Passed job m
   unfolding machineCheck
   machine-passed c checked e =
-      let (t, rs, d) =
-      each-passed (ltb (length (m .table)) tableSize) (ltb (length (m .reasons)) reasonsSize)
-      (checkOf fullLimits true job)
-      (sym (ap (λ (x : Checked). x .number) checked) ∙ e) in
+      let (t, rs, d) = each-passed _ _ _ (rw checked at e) in
       record {
-        long = ltb-false (length (m .table)) tableSize t;
-        long-reasons = ltb-false (length (m .reasons)) reasonsSize rs;
+        long = ltb-false _ tableSize t;
+        long-reasons = ltb-false _ reasonsSize rs;
         ok = number-accepted true job d;
       }
 
   -- the three ways out of the checks
   pub short-table : length (m .table) < tableSize → refused 10 1 ≡ machineCheck job m
   unfolding machineCheck
-  short-table h = rw (lt-ltb (length (m .table)) tableSize h)
+  short-table h = rw lt-ltb
 
   pub short-reasons : tableSize ≤ length (m .table) → length (m .reasons) < reasonsSize
       → refused 10 2 ≡ machineCheck job m
   unfolding machineCheck
-  short-reasons l h = rw (le-ltb (length (m .table)) tableSize l, lt-ltb (length (m .reasons)) reasonsSize h)
+  short-reasons l h = rw (le-ltb, lt-ltb)
 
   pub long-enough : tableSize ≤ length (m .table) → reasonsSize ≤ length (m .reasons)
       → checkOf fullLimits true job ≡ machineCheck job m
   unfolding machineCheck
-  long-enough l h = rw (le-ltb (length (m .table)) tableSize l, le-ltb (length (m .reasons)) reasonsSize h)
+  long-enough l h = rw (le-ltb, le-ltb)

@@ -1,4 +1,3 @@
 -- Laws: reasons that fit.
 pub mod Steps
 pub mod Runs
-pub mod Reading

@@ -2,7 +2,6 @@
 pub mod EmptyRules
 pub mod StartLaws
 pub mod StartCounts
-pub mod Written
 pub mod StartGiven
 pub mod StartLoops
 pub mod StartRules

@@ -2,6 +2,7 @@
 pub mod RuleRanges
 pub mod Places
 pub mod Each
+pub mod Layouts
 pub mod Statuses
 pub mod Bytes
 pub mod FirstFrom

@@ -106,7 +106,8 @@ fn loops(table: &mut [u8], reasons: &mut [u16], states: usize, keys: &[u32; RULE
 
 // Writes the table and the reasons of an accepted job, and returns its number of states.
 pub fn begin(job: &[u8], table: &mut [u8], reasons: &mut [u16]) -> usize
-    requires able { ⌜ (tableSize ≤ length (now table)) × (reasonsSize ≤ length (now reasons)) × Accepted true (now job) ⌝ }
+    requires able { ⌜ (tableSize ≤ length (now table)) × (reasonsSize ≤ length (now reasons))
+        × Accepted true (now job) ⌝ }
     ensures states { λ s. ⌜ s ≡ jobOf (now (job .entry)) .states ⌝ }
     ensures written { λ s. ⌜ lentOf (now (table .exit)) (now (reasons .exit))
         ≡ started (jobOf (now (job .entry))) (lentOf (now (table .entry)) (now (reasons .entry))) ⌝ }

@@ -41,10 +41,8 @@ module _ {text : List ℕ} {m : ℕ} {before : List ℕ} {needed : ℕ} {front :
   fits out {bytes = bytes} {written = written} l b =
       let k : length text ≤ length out = omega (arith, needs-all, rw (gone front out none) at l) in
       let e : bytes ≡ length text = b .moved ∙ zero-add (length text) in
-      let w : written ≡ text ++ drop (length text) out =
-      b .written
+      let w : written ≡ text ++ drop (length text) out = b .written
       ∙ ap (λ o. sets o 0 text) (gone front out none)
       ∙ sets-eq text out 0 (rw zero-add k)
-      ∙ rw zero-add
-      in
+      ∙ rw zero-add in
       rw (le-ltb (length out) (length text) k, e, w)

@@ -16,12 +16,10 @@ use Rattle.text.proofs.Spelling.{cases, one, more, tenth, decimal-short
 
 few-below : (k j n : ℕ) → n < 10 ^ suc k → length (digits (suc j) n) ≤ suc k
 unfolding digits
-few-below k zero n l =
-    cases (ltb n 10) (λ e. rw e (omega arith)) (λ e. rw e (omega arith))
+few-below k zero n l = cases (ltb n 10) (λ e. rw e (omega arith)) (λ e. rw e (omega arith))
 few-below zero (suc j) n l = rw (one (suc j) n (lt-ltb n 10 l)) (omega arith)
 few-below (suc k) (suc j) n l =
-    cases
-    (ltb n 10)
+    cases (ltb n 10)
     (λ e. rw (one (suc j) n e) (omega arith))
     (λ e. rw (more (suc j) n e, length-append) (omega (arith, few-below k j (n / 10) (tenth (suc k) n l))))
 
@@ -71,23 +69,13 @@ second-short kind Z m l k =
 body-short : (kind Y Z m : ℕ) → Y < 256 → Z < 256 → m < 256 → length (bodyText kind Y Z m) ≤ 19
 unfolding bodyText
 body-short kind Y Z m h l k =
-    either
-    (eqb kind 69)
-    _
-    _
-    19
-    (omega arith)
+    either (eqb kind 69) _ _ 19 (omega arith)
     (simp length-append (omega (arith, byte-short Y h, second-short kind Z m l k)))
 
 reason-short : (X kind Y Z m : ℕ) → X < 256 → Y < 256 → Z < 256 → m < 256 → length (reasonText X kind Y Z m) ≤ 26
 unfolding reasonText
 reason-short X kind Y Z m g h l k =
-    either
-    (eqb kind 71)
-    _
-    _
-    26
-    (omega arith)
+    either (eqb kind 71) _ _ 26 (omega arith)
     (simp length-append (omega (arith, byte-short X g, body-short kind Y Z m h l k)))
 
 record-short : (listing : List ℕ) (k : ℕ) → Bytes listing → length (recordLine listing k) ≤ 37
@@ -118,12 +106,7 @@ pub texts-fit : TextsFit
 unfolding reportText codesText explainText shownRecords
 texts-fit =
     record {
-      report =
-          λ r. either
-          (eqb (r .number) 0)
-          _
-          _
-          117
+      report = λ r. either (eqb (r .number) 0) _ _ 117
           (simp length-append
           (omega (
             arith,
@@ -135,24 +118,14 @@ texts-fit =
             answer-short (ascii "growing") (r .growing),
           )))
           (omega (arith, refused-short (r .number) (r .place)));
-      codes =
-          λ number place codes b. either
-          (eqb number 0)
-          _
-          _
-          448
+      codes = λ number place codes b. either (eqb number 0) _ _ 448
           (omega (
             arith,
             all (λ X. codeLine X (getD codes X 0)) 7 (min 64 (length codes))
                 (λ X l. code-short X (getD codes X 0) (omega arith) (b X)),
           ))
           (omega (arith, refused-short number place));
-      explain =
-          λ number place accepted records listing b. either
-          (eqb number 0)
-          _
-          _
-          (42 + 37 * mostRecords)
+      explain = λ number place accepted records listing b. either (eqb number 0) _ _ (42 + 37 * mostRecords)
           (simp length-append
           (omega (
             arith,

@@ -24,8 +24,7 @@ module _ {s : List ℕ} {m at : ℕ} {before : List ℕ} {r : ℕ} {after : List
       record {
         moved = omega (arith, a .moved, b .moved, length-append s t);
         short = omega (arith, a .short, b .short, length-append s t);
-        written =
-            b .written ∙ ap (λ o. sets o r t) (a .written) ∙ ap (λ k. sets (sets before at s) k t) (a .moved)
+        written = b .written ∙ ap (λ o. sets o r t) (a .written) ∙ ap (λ k. sets (sets before at s) k t) (a .moved)
             ∙ sym (sets-append s t before at);
       }
 
@@ -39,8 +38,7 @@ nothing {at} = record { moved = sym (add-zero at); short = omega arith; written 
 
 -- a byte that has no room
 pub no-room : {at b : ℕ} {before : List ℕ} → length before ≤ at → Placed (b ∷ []) 1 at before (at + 1) before
-no-room {at} {b} {before} l =
-    record { moved = refl; short = omega arith; written = sym (set-out before at b l) }
+no-room {at} {b} {before} l = record { moved = refl; short = omega arith; written = sym (set-out before at b l) }
 
 -- one byte more of a word
 pub byte-more : (word : List ℕ) (i : ℕ) {at : ℕ} {before : List ℕ} {r : ℕ} {after : List ℕ} {r′ : ℕ} {after′ : List ℕ}

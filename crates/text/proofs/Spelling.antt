@@ -35,11 +35,9 @@ enough zero n l =
     let e : ltb n 10 ≡ true = lt-ltb n 10 l in
     one zero n e ∙ sym (one (suc zero) n e)
 enough (suc k) n l =
-    cases
-    (ltb n 10)
+    cases (ltb n 10)
     (λ e. one (suc k) n e ∙ sym (one (suc (suc k)) n e))
-    (λ e.
-    more (suc k) n e
+    (λ e. more (suc k) n e
     ∙ ap (λ s. s ++ (digit (n % 10) ∷ [])) (enough k (n / 10) (tenth (suc k) n l))
     ∙ sym (more (suc (suc k)) n e))
 
@@ -58,11 +56,7 @@ module _ (n : ℕ) (fits : n < 18446744073709551616) where
 few : (k n : ℕ) → length (digits k n) ≤ k
 unfolding digits
 few zero n = omega arith
-few (suc k) n =
-    cases
-    (ltb n 10)
-    (λ e. rw e (omega arith))
-    (λ e. rw (e, length-append) (omega (arith, few k (n / 10))))
+few (suc k) n = cases (ltb n 10) (λ e. rw e (omega arith)) (λ e. rw (e, length-append) (omega (arith, few k (n / 10))))
 
 pub decimal-short : (n : ℕ) → length (decimal n) ≤ 20
 unfolding decimal
@@ -91,9 +85,7 @@ unfolding valueAfter
 spells-more s n d p l a =
     record {
       value = value-append 0 s (digit d ∷ []) ∙ omega (arith, a .value);
-      digits =
-          λ i m. cases
-          (ltb i (length s))
+      digits = λ i m. cases (ltb i (length s))
           (λ e. let k : i < length s = ltb-true i (length s) e in
           rw (List·getD-append s (digit d ∷ []) 0 i k) (a .digits i k))
           (λ e. let k : length s ≤ i = ltb-false i (length s) e in
@@ -105,8 +97,7 @@ spells-more s n d p l a =
 spells : (k n : ℕ) → n < 10 ^ suc k → Spells (digits (suc k) n) n
 spells zero n l = rw (one zero n (lt-ltb n 10 l)) (spells-one n l)
 spells (suc k) n l =
-    cases
-    (ltb n 10)
+    cases (ltb n 10)
     (λ e. rw (one (suc k) n e) (spells-one n (ltb-true n 10 e)))
     (λ e.
     let m : 10 ≤ n = ltb-false n 10 e in

@@ -1,12 +1,6 @@
 -- Writing the first n numbers of a list, one after the other. Assumes nothing.
-use mathlib.Core.Path.{_≡_, refl, _∙_, ap}
-use Prim.Native.Nat.{ℕ, zero, suc, _+_, _<_}
-use mathlib.Core.Bool.{Bool}
-use mathlib.Core.List.{List, [], _∷_}
-use native.Mathlib.Nat.{add-zero, zero-add}
-use native.Mathlib.Numerals.{add-one}
-use native.Mathlib.Omega.{arith}
-use lib.ListN.{length, getD, set, take, drop}
+use Rattle.grammar.proofs.Basics.{_≡_, refl, ap, Bool, List, _∷_, [], ℕ, _<_, _+_, suc, zero, add-zero, zero-add}
+use Rattle.grammar.proofs.Basics.{add-one, arith, length, getD, take, set, drop}
 use Rattle.grammar.specs.Counting.{one-if}
 use Rattle.verdicts.specs.Operation.{written}
 use Rattle.verdicts.specs.Inside.Flags.{Flags}
@@ -38,8 +32,8 @@ unfolding written
 written-next f i n [] l = absurd (omega arith)
 written-next f i zero (x ∷ xs) l = rw add-zero
 written-next f i (suc n) (x ∷ xs) l =
-    let e : suc i + n ≡ i + suc n = omega arith in
-    ap (λ (ys : List ℕ). f i ∷ ys) (rw e at (written-next f (suc i) n xs (omega arith)))
+    let e : i + suc n ≡ suc i + n = omega arith in
+    rw (e, written-next f (suc i) n xs (omega arith))
 
 pub written-more :
     (f : ℕ → ℕ) (n : ℕ) (xs : List ℕ) {ys : List ℕ} {v : ℕ} → n < length xs → ys ≡ written f 0 n xs → v ≡ f n →
@@ -47,25 +41,20 @@ pub written-more :
 written-more f n xs l e p = rw (e, p, add-one n) (rw (zero-add n) at (written-next f 0 n xs l))
 
 -- flags that are written so hold the set
-pub written-flags :
-    {s : ℕ → Bool} {flags : List ℕ} (zeros : List ℕ) → length zeros ≡ 64 →
+pub written-flags : {s : ℕ → Bool} {flags : List ℕ} (zeros : List ℕ) → length zeros ≡ 64 →
     flags ≡ written (λ X. one-if (s X)) 0 64 zeros → Flags s flags
-written-flags {s} zeros long e =
-    record {
-      long = ap length e ∙ written-long (λ X. one-if (s X)) 0 64 zeros ∙ long;
-      at = λ X l. ap (λ (ys : List ℕ). getD ys X 0) e ∙ written-at (λ X. one-if (s X)) 64 zeros X l (omega arith);
-    }
+written-flags zeros long e =
+    rw e record { long = rw written-long long; at = λ X l. written-at _ 64 zeros X l (omega arith) }
 
 -- what is written depends on the length alone, and the rest is the rest
-pub written-alike :
-    (f : ℕ → ℕ) (i n : ℕ) (xs ys : List ℕ) → length xs ≡ length ys →
+pub written-alike : (f : ℕ → ℕ) (i n : ℕ) (xs ys : List ℕ) → length xs ≡ length ys →
     take n (written f i n xs) ≡ take n (written f i n ys)
 unfolding written
 written-alike f i zero xs ys e = refl
 written-alike f i (suc n) [] [] e = refl
 written-alike f i (suc n) [] (y ∷ ys) e = absurd (omega arith)
 written-alike f i (suc n) (x ∷ xs) [] e = absurd (omega arith)
-written-alike f i (suc n) (x ∷ xs) (y ∷ ys) e = ap (λ l. f i ∷ l) (written-alike f (suc i) n xs ys (omega arith))
+written-alike f i (suc n) (x ∷ xs) (y ∷ ys) e = rw (written-alike f (suc i) n xs ys (omega arith))
 
 pub written-rest : (f : ℕ → ℕ) (i n : ℕ) (xs : List ℕ) → drop n (written f i n xs) ≡ drop n xs
 unfolding written

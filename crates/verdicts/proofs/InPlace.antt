@@ -1,16 +1,10 @@
 -- Growth in place, rule after rule: it stays within what is closed, and a pass that adds nothing shows the set closed.
 -- Assumes nothing.
-use mathlib.Core.Path.{_≡_, refl, _∙_}
-use Prim.Native.Nat.{ℕ, zero, suc, _≤_, _<_}
-use mathlib.Core.Bool.{Bool, true}
-use mathlib.Core.List.{List, [], _∷_, List·Memᴰ·head, List·Memᴰ·eq-of-singleton}
-use native.Mathlib.Omega.{arith}
-use lib.Dec.{eqb}
-use borrow.Author.Tests.{eqb-true, eqb-false}
-use lib.ListN.{length, getD}
+use Rattle.grammar.proofs.Basics.{_≡_, refl, _∙_, ⊎-elim, true, Bool, List, _∷_, [], List·Memᴰ·head}
+use Rattle.grammar.proofs.Basics.{List·Memᴰ·eq-of-singleton, ℕ, _<_, _≤_, suc, zero, eq-or-lt-of-le, arith, length}
+use Rattle.grammar.proofs.Basics.{getD, same-test}
 use Rattle.grammar.specs.Counting.{count}
 use Rattle.grammar.specs.Rule.{Rule, Among}
-use Rattle.grammar.proofs.Basics.{cases, same-test}
 use Rattle.grammar.proofs.Counting.{count-equal}
 use Rattle.job.specs.Inside.Keys.{ruleOfKey}
 use Rattle.verdicts.specs.declared.Direction.{Direction}
@@ -33,70 +27,45 @@ module _ (d : Direction) (counting : ℕ → Bool) where
       closed σ (among-within counting rules σ (rw (List·Memᴰ·eq-of-singleton (a .0)) m) (a .1))
 
   module _ (keys : List ℕ) (s : ℕ → Bool) where
-    by : ℕ → ℕ → Bool
-    by n = byKeys d counting keys n s
+    keys-keep : (k n : ℕ) → k ≤ n → Subset (byKeys d counting keys k s) (byKeys d counting keys n s)
+    unfolding byKeys
+    keys-keep k zero l X e = let z : k ≡ 0 = omega arith in rw z at e
+    keys-keep k (suc n) l X e =
+        ⊎-elim (λ q. rw q at e) (λ h. round-keeps d _ _ X (keys-keep k n (omega arith) X e)) (eq-or-lt-of-le l)
 
-    one : ℕ → List Rule
-    one n = within counting (ruleOfKey (getD keys n 0) ∷ [])
-
-    keys-keep : (k n : ℕ) → k ≤ n → Subset (by k) (by n)
-    unfolding byKeys by one
-    keys-keep zero zero l X e = e
-    keys-keep (suc k) zero l X e = absurd (omega arith)
-    keys-keep zero (suc n) l X e = round-keeps d (one n) (by n) X (keys-keep zero n (omega arith) X e)
-    keys-keep (suc k) (suc n) l X e =
-        cases
-        (eqb k n)
-        (λ q. rw (eqb-true k n q) at e)
-        (λ q.
-        let ne : ¬ (k ≡ n) = eqb-false k n q in
-        round-keeps d (one n) (by n) X (keys-keep (suc k) n (omega arith) X e))
-
-    pub pass-keeps : (n : ℕ) → Subset s (byKeys d counting keys n s)
-    unfolding byKeys by one
+    pass-keeps : (n : ℕ) → Subset s (byKeys d counting keys n s)
+    unfolding byKeys
     pass-keeps n = keys-keep 0 n (omega arith)
 
-    pub pass-within :
+    pass-within :
         {c : ℕ → Bool} (n m : ℕ) → n ≤ m → m ≤ length keys → ClosedUnder d (within counting (rulesOfKeys keys m)) c →
         Subset s c →
         Subset (byKeys d counting keys n s) c
     unfolding byKeys
     pass-within zero m l h closed sub = sub
     pass-within (suc n) m l h closed sub =
-        let ρ = ruleOfKey (getD keys n 0) in
-        round-within d (within counting (ρ ∷ []))
-        (one-closed (rulesOfKeys keys m) closed ρ (among-key keys m n h (omega arith)))
+        round-within d _ (one-closed (rulesOfKeys keys m) closed _ (among-key keys m n h (omega arith)))
         (pass-within n m (omega arith) h closed sub)
 
     -- a pass that adds none of the 64 symbols
     module _ (n : ℕ) (ks : Keys keys n) (idle : count s 64 ≡ count (byKeys d counting keys n s) 64) where
-      idle-key :
-          (k : ℕ) → k < n → let ρ = ruleOfKey (getD keys k 0) in
-          ruleIn counting ρ ≡ true → (X : ℕ) → ready d s ρ ≡ true → standsIn X (added d ρ) ≡ true → X < 64 → s X ≡ true
-      unfolding byKeys by one
-      idle-key k l c X r t m =
+      abbrev Idle : Rule → Type 0
+      Idle ρ = (X : ℕ) → ready d s ρ ≡ true → standsIn X (added d ρ) ≡ true → s X ≡ true
+
+      idle-key : (k : ℕ) → k < n → let ρ = ruleOfKey (getD keys k 0) in ruleIn counting ρ ≡ true → Idle ρ
+      unfolding byKeys
+      idle-key k l c X r t =
           let ρ = ruleOfKey (getD keys k 0) in
-          count-equal s (by n) 64 (λ Y _ e. pass-keeps n Y e) idle X m
+          count-equal s _ 64 (λ Y _. pass-keeps n Y) idle X
+          (added-has d ρ X (keys-below ks ρ (among-key keys n k (ks .long) l)) t)
           ∙ keys-keep (suc k) n (omega arith) X
-          (round-adds d (one k) (by k) ρ (among-within counting (ρ ∷ []) ρ (List·Memᴰ·head refl) c) X
+          (round-adds d _ _ ρ (among-within counting (ρ ∷ []) ρ (List·Memᴰ·head refl) c) X
           (ready-grows d (pass-keeps k) ρ r) t)
 
-      pub pass-closed : ClosedUnder d (within counting (rulesOfKeys keys n)) s
-      pass-closed ρ m X r t =
-          let a = within-among counting (rulesOfKeys keys n) ρ m in
-          of-each-key
-          (λ ρ. ruleIn counting ρ ≡ true → (X : ℕ) → ready d s ρ ≡ true → standsIn X (added d ρ) ≡ true → X < 64 →
-          s X ≡ true)
-          keys
-          n
-          idle-key
-          ρ
-          (a .0)
-          (a .1)
-          X
-          r
-          t
-          (added-has d ρ X (keys-below ks ρ (a .0)) t)
+      pass-closed : ClosedUnder d (within counting (rulesOfKeys keys n)) s
+      pass-closed ρ m =
+          let (listed, counts) = within-among counting (rulesOfKeys keys n) ρ m in
+          of-each-key (λ ρ. ruleIn counting ρ ≡ true → Idle ρ) keys n idle-key ρ listed counts
 
 -- flags between a set and what it grows to
 pub record PartGrown (d : Direction) (rules : List Rule) (s : ℕ → Bool) (f : List ℕ) : Type 0 where
@@ -124,8 +93,7 @@ module _ {d : Direction} (counting : ℕ → Bool) {keys : List ℕ} {n : ℕ} (
           held = byKeys d counting keys n (b .held);
           flags = r .flags;
           above = λ X e. pass-keeps d counting keys (b .held) n X (b .above X e);
-          under =
-              pass-within d counting keys (b .held) n n (omega arith) (ks .long) (grown-closed d rules s below)
+          under = pass-within d counting keys (b .held) n n (omega arith) (ks .long) (grown-closed d rules s below)
               (b .under);
         }
 
@@ -134,11 +102,6 @@ module _ {d : Direction} (counting : ℕ → Bool) {keys : List ℕ} {n : ℕ} (
     part-grown-end z =
         let rules = within counting (rulesOfKeys keys n) in
         let closed = pass-closed d counting keys (b .held) n ks (omega (arith, r .counted)) in
-        flags-alike
-        (r .flags)
-        (λ X _.
-        same-test
-        (byKeys d counting keys n (b .held) X)
-        (grown d rules s X)
-        (part-grown-more .under X)
+        flags-alike (r .flags)
+        (λ X _. same-test _ _ (part-grown-more .under X)
         (λ e. pass-keeps d counting keys (b .held) n X (grown-within d rules s closed (b .above) X e)))

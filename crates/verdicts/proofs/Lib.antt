@@ -6,8 +6,6 @@ pub mod InPlace
 pub mod Papers
 pub mod GrowingIsCycle
 pub mod Filling
-pub mod Adding
-pub mod Naming
 pub mod Cyclic
 pub mod Outcome
 pub mod Meant

@@ -1,44 +1,33 @@
 -- The computed verdicts mean what the papers say, of a grammar and of a call that is not refused. Assumes nothing.
-use mathlib.Core.Path.{_≡_, _∙_, ap, subst}
-use Prim.Native.Nat.{ℕ, _<_}
-use mathlib.Core.Logic.{_↔_}
-use mathlib.Core.Bool.{true, false, not}
-use mathlib.Core.List.{List}
-use native.Mathlib.Omega.{arith}
-use borrow.Author.Tests.{not-true, not-false}
-use lib.ListN.{getD}
+use Rattle.grammar.proofs.Basics.{_≡_, ap, subst, _↔_, true, false, not, List, ℕ, arith, not-true, not-false, cases}
+use Rattle.grammar.proofs.Basics.{refuted, not-true-false}
 use Rattle.grammar.specs.Rule.{Rule, Among, empty}
 use Rattle.grammar.specs.Useful.{Productive}
-use Rattle.grammar.proofs.Basics.{cases, refuted, not-true-false}
 use Rattle.grammar.proofs.UsefulIsBoth.{useful-both, both-useful}
 use Rattle.job.specs.Job.{jobOf}
 use Rattle.job.proofs.AcceptedFacts.{in-range}
 use Rattle.verdicts.specs.Verdicts.{productive, useful, growing, isEmpty, isNamed, codeOf}
-use Rattle.verdicts.specs.Operation.{verdictsCheck, verdictsOn, verdictsOf}
+use Rattle.verdicts.specs.Operation.{verdictsCheck, verdictsOn}
 use Rattle.verdicts.specs.Meaning.{CodeIs, unnamed, usefulSymbol, unproductive, outOfContext}
 use Rattle.verdicts.specs.Theorems.Meant.{Meant}
 use Rattle.verdicts.proofs.Rounds.{Below}
 use Rattle.verdicts.proofs.KeyRules.{range-below}
 use Rattle.verdicts.proofs.Papers.{productive-is, useful-is}
 use Rattle.verdicts.proofs.GrowingIsCycle.{growing-is}
-use Rattle.verdicts.proofs.Outcome.{Unrefused, unrefused, verdicts-given}
+use Rattle.verdicts.proofs.Outcome.{unrefused, verdicts-given}
 use Rattle.verdicts.proofs.Filling.{written-at}
 
 module _ (rules : List Rule) (S : ℕ) (below : Below 64 rules) where
   -- a code is the code that the papers' sets give
   code-is : (X : ℕ) → CodeIs rules S X (codeOf rules S X)
   code-is X =
-      cases
-      (isNamed rules S X)
-      (λ n.
-      rw n
-      (cases
-      (productive rules X)
+      cases (isNamed rules S X)
+      (λ n. rw n
+      (cases (productive rules X)
       (λ p.
       let derives = productive-is rules below X .0 p in
       rw p
-      (cases
-      (useful rules S X)
+      (cases (useful rules S X)
       (λ u. rw u (usefulSymbol n derives (useful-both (Among rules) S X (useful-is rules below S X .0 u) .1)))
       (λ u. rw u (outOfContext n derives
       (λ c. refuted (useful-is rules below S X) u (both-useful (Among rules) S X derives c))))))
@@ -61,13 +50,13 @@ module _ (rules : List Rule) (S : ℕ) (below : Below 64 rules) where
   pub code-meant : (X c : ℕ) → (codeOf rules S X ≡ c) ↔ CodeIs rules S X c
   code-meant X c = (λ e. subst (CodeIs rules S X) e (code-is X), is-code)
 
-  pub empty-meant : (isEmpty rules S ≡ true) ↔ (Productive (Among rules) S → ⊥)
+  empty-meant : (isEmpty rules S ≡ true) ↔ (Productive (Among rules) S → ⊥)
   empty-meant = (
     λ e. refuted (productive-is rules below S) (not-true (productive rules S) e),
     λ n. ap not (not-true-false (productive rules S) (λ e. n (productive-is rules below S .0 e))),
   )
 
-  pub not-empty-meant : (isEmpty rules S ≡ false) ↔ Productive (Among rules) S
+  not-empty-meant : (isEmpty rules S ≡ false) ↔ Productive (Among rules) S
   not-empty-meant = (
     λ e. productive-is rules below S .0 (not-false (productive rules S) e),
     λ p. ap not (productive-is rules below S .1 p),
@@ -76,29 +65,15 @@ module _ (rules : List Rule) (S : ℕ) (below : Below 64 rules) where
 pub verdicts-meant : (job table codes : List ℕ) → verdictsCheck job table codes .number ≡ 0 → Meant job table codes
 unfolding verdictsOn
 verdicts-meant job table codes z =
+    let u = unrefused job table codes z in
+    let rules = jobOf job .rules in
+    let S = jobOf job .start in
+    let below = range-below (in-range (u .passes) .rules) in
+    let given = verdicts-given job table codes z in
     record {
-      code = λ X c l. rw (code-at X l) (code-meant rules S below X c);
+      code = λ X c l. rw (given, written-at (codeOf rules S) 64 codes X l (omega (arith, u .codes-long)))
+          (code-meant rules S below X c);
       empty = rw given (empty-meant rules S below);
       notEmpty = rw given (not-empty-meant rules S below);
       growing = rw given (growing-is rules S below);
     }
-  where
-    u : Unrefused job table codes
-    u = unrefused job table codes z
-
-    rules : List Rule
-    rules = jobOf job .rules
-
-    S : ℕ
-    S = jobOf job .start
-
-    below : Below 64 rules
-    below = range-below (in-range (u .passes) .rules)
-
-    given : verdictsOf job table codes ≡ verdictsOn (jobOf job) table codes
-    given = verdicts-given job table codes z
-
-    code-at : (X : ℕ) → X < 64 → getD (verdictsOf job table codes .codes) X 0 ≡ codeOf rules S X
-    code-at X l =
-        ap (λ o. getD (o .codes) X 0) given
-        ∙ written-at (codeOf rules S) 64 codes X l (omega (arith, u .codes-long))

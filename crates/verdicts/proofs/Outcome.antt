@@ -1,17 +1,10 @@
 -- What a call of the verdicts leaves, by whether it is refused. Assumes nothing.
-use mathlib.Core.Path.{_≡_}
-use Prim.Native.Nat.{ℕ, _≤_}
-use mathlib.Core.Bool.{false}
-use mathlib.Core.List.{List}
-use native.Mathlib.Omega.{arith}
-use lib.Dec.{ltb}
-use borrow.Author.Tests.{eq-eqb, ne-eqb, ltb-false}
-use lib.ListN.{length}
-use Rattle.grammar.proofs.Basics.{cases}
+use Rattle.grammar.proofs.Basics.{_≡_, false, List, ℕ, _≤_, length, eq-eqb, ne-eqb, ltb-false}
 use Rattle.job.specs.declared.Checked.{Checked}
 use Rattle.job.specs.Accepted.{Accepted}
 use Rattle.job.specs.Job.{jobOf}
 use Rattle.job.proofs.Accepted.{number-accepted}
+use Rattle.job.proofs.JobChecks.{both-pass, not-short}
 use Rattle.verdicts.specs.Operation.{verdictsCheck, verdictsLeave, verdictsOn, verdictsOf}
 
 -- a call that is not refused
@@ -23,22 +16,15 @@ pub record Unrefused (job table codes : List ℕ) : Type 0 where
 pub unrefused : (job table codes : List ℕ) → verdictsCheck job table codes .number ≡ 0 → Unrefused job table codes
 unfolding verdictsCheck
 unrefused job table codes e =
-    cases
-    (ltb (length table) 65536)
-    (λ t. absurd (omega (arith, rw t at e)))
-    (λ t.
-    cases
-    (ltb (length codes) 64)
-    (λ u. absurd (omega (arith, rw (t, u) at e)))
-    (λ u.
+    let (short, checked) = both-pass _ _ e in
+    let (short-table, short-codes) = both-pass _ _ short in
     record {
-      passes = number-accepted false job (rw (t, u) at e);
-      table-long = ltb-false (length table) 65536 t;
-      codes-long = ltb-false (length codes) 64 u;
-    }))
+      passes = number-accepted false job checked;
+      table-long = ltb-false _ _ (not-short _ _ short-table);
+      codes-long = ltb-false _ _ (not-short _ _ short-codes);
+    }
 
-pub verdicts-given :
-    (job table codes : List ℕ) → verdictsCheck job table codes .number ≡ 0 →
+pub verdicts-given : (job table codes : List ℕ) → verdictsCheck job table codes .number ≡ 0 →
     verdictsOf job table codes ≡ verdictsOn (jobOf job) table codes
 unfolding verdictsOf
 verdicts-given job table codes z = rw (eq-eqb (verdictsCheck job table codes .number) 0 z)

@@ -1,66 +1,34 @@
 -- The computed sets are the papers' sets: each of their rounds is a way to generate, to reach or to lead, and what is
 -- closed under the rules contains all that generates, is reached or leads. Assumes nothing.
-use mathlib.Core.Path.{_≡_, refl, subst}
-use Prim.Native.Nat.{ℕ, zero, suc}
-use mathlib.Core.Logic.{_↔_, ⊎-elim}
-use mathlib.Core.Bool.{Bool, true, _&&_}
-use mathlib.Core.List.{List, [], _∷_}
-use lib.Dec.{eqb, ltb, leb}
-use borrow.Author.Tests.{eqb-true, eq-eqb, leb-true, le-leb, ltb-true, lt-ltb}
+use Rattle.grammar.proofs.Basics.{_≡_, refl, _↔_, true, List, _∷_, [], ℕ, eqb, eq-eqb, eqb-true, le-leb, lt-ltb}
+use Rattle.grammar.proofs.Basics.{leb-true, and-left, and-right}
 use Rattle.grammar.specs.Symbol.{IsTerminal}
 use Rattle.grammar.specs.Rule.{Rule, Among, head, body, empty, unit, pair}
 use Rattle.grammar.specs.Useful.{Productive, Useful}
 use Rattle.grammar.specs.Growing.{AllUseful, UsefulRules}
 use Rattle.grammar.specs.Theorems.Inductive.{Generating, Reached, Leads}
-use Rattle.grammar.proofs.Basics.{and-left, and-right, and-both, or-split}
 use Rattle.grammar.proofs.Strings.{All, nil, cons, Any, here, there}
 use Rattle.grammar.proofs.Productive.{generating-rule, generating-derives, productive-generates}
 use Rattle.grammar.proofs.InContext.{reached-in-context, in-context-reached}
 use Rattle.grammar.proofs.UsefulIsBoth.{useful-both, both-useful}
-use Rattle.verdicts.specs.declared.Direction.{Direction}
 use Rattle.verdicts.specs.declared.Direction.the-variants.{Up, Down, Back}
-use Rattle.verdicts.specs.Sets.{allIn, standsIn, within, anyRule, ready, added, round, rounds, grown}
+use Rattle.verdicts.specs.Sets.{allIn, standsIn, within}
 use Rattle.verdicts.specs.Verdicts.{isTerminal, productive, useful, usefulRules, leads}
 use Rattle.verdicts.proofs.Tests.{all-in, in-all, any-in, in-any, stands-has, stands-first, stands-second}
-use Rattle.verdicts.proofs.Tests.{any-rule, within-among, among-within}
-use Rattle.verdicts.proofs.Rounds.{Below, grown-keeps, grown-closed}
-
--- what holds of a set, and of all that a rule adds where it holds of what makes the rule ready, holds of all rounds
-module _ (P : ℕ → Type 0) (d : Direction) (rules : List Rule) {s : ℕ → Bool} (base : (X : ℕ) → s X ≡ true → P X)
-    (step :
-    (t : ℕ → Bool) → ((X : ℕ) → t X ≡ true → P X) → (ρ : Rule) → Among rules ρ → (X : ℕ) → ready d t ρ ≡ true →
-    standsIn X (added d ρ) ≡ true → P X)
-  where
-    rounds-sound : (k X : ℕ) → rounds d rules k s X ≡ true → P X
-    unfolding rounds round
-    rounds-sound zero X e = base X e
-    rounds-sound (suc k) X e =
-        let t = rounds d rules k s in
-        ⊎-elim
-        (rounds-sound k X)
-        (λ a.
-        let f = any-rule (λ ρ. ready d t ρ && standsIn X (added d ρ)) rules a in
-        let r = ready d t (f .0) in
-        let q = standsIn X (added d (f .0)) in
-        step t (rounds-sound k) (f .0) (f .1) X (and-left r q (f .2)) (and-right r q (f .2)))
-        (or-split (t X) (anyRule (λ ρ. ready d t ρ && standsIn X (added d ρ)) rules) e)
-
-    pub grown-sound : (X : ℕ) → grown d rules s X ≡ true → P X
-    unfolding grown
-    grown-sound = rounds-sound 64
+use Rattle.verdicts.proofs.Tests.{within-among, among-within}
+use Rattle.verdicts.proofs.Rounds.{Below, grown-sound, grown-keeps, grown-closed}
 
 terminal-test : (X : ℕ) → isTerminal X ≡ true → IsTerminal X
-terminal-test X e =
-    (leb-true 32 X (and-left (leb 32 X) (ltb X 64) e), ltb-true X 64 (and-right (leb 32 X) (ltb X 64) e))
+terminal-test X e = search (and-left, and-right, leb-true)
 
 test-terminal : (X : ℕ) → IsTerminal X → isTerminal X ≡ true
-test-terminal X t = and-both (leb 32 X) (ltb X 64) (le-leb 32 X (t .0)) (lt-ltb X 64 (t .1))
+test-terminal X t = rw (le-leb 32 X (t .0), lt-ltb X 64 (t .1))
 
 module _ (rules : List Rule) (below : Below 64 rules) where
-  pub productive-sound : (X : ℕ) → productive rules X ≡ true → Generating (Among rules) X
+  productive-sound : (X : ℕ) → productive rules X ≡ true → Generating (Among rules) X
   unfolding productive
   productive-sound =
-      grown-sound (Generating (Among rules)) Up rules
+      grown-sound Up rules (Generating (Among rules))
       (λ X e. Generating.terminal (terminal-test X e))
       (λ t one ρ m X r e.
       stands-has {P = Generating (Among rules)} X (cons (generating-rule ρ m (all-in t (body ρ) one r)) nil) e)
@@ -69,11 +37,11 @@ module _ (rules : List Rule) (below : Below 64 rules) where
   productive-rule :
       (ρ : Rule) → Among rules ρ → allIn (productive rules) (body ρ) ≡ true → productive rules (head ρ) ≡ true
   unfolding productive
-  productive-rule ρ m e = grown-closed Up rules isTerminal below ρ m (head ρ) e (stands-first (head ρ) [])
+  productive-rule ρ m e = grown-closed Up rules _ below ρ m (head ρ) e (stands-first (head ρ) [])
 
-  pub productive-complete : {X : ℕ} → Generating (Among rules) X → productive rules X ≡ true
+  productive-complete : {X : ℕ} → Generating (Among rules) X → productive rules X ≡ true
   unfolding productive allIn
-  productive-complete (Generating.terminal {X = X} t) = grown-keeps Up rules isTerminal X (test-terminal X t)
+  productive-complete (Generating.terminal {X = X} t) = grown-keeps Up rules _ X (test-terminal X t)
   productive-complete (Generating.by-empty {A = A} m) = productive-rule (empty A) m refl
   productive-complete (Generating.by-unit {A = A} {X = X} m g) =
       productive-rule (unit A X) m (rw (productive-complete g))
@@ -83,63 +51,49 @@ module _ (rules : List Rule) (below : Below 64 rules) where
   pub productive-is : (X : ℕ) → (productive rules X ≡ true) ↔ Productive (Among rules) X
   productive-is X = (
     λ e. generating-derives (productive-sound X e),
-    λ p. productive-complete
-        (productive-generates (Among rules) X p),
+    λ p. productive-complete (productive-generates (Among rules) X p),
   )
 
   -- the rules whose symbols are all productive
-  kept : List Rule
+  abbrev kept : List Rule
   kept = within (productive rules) rules
 
   kept-below : Below 64 kept
-  unfolding kept
   kept-below ρ m = below ρ (within-among (productive rules) rules ρ m .0)
 
   module _ (S : ℕ) where
-    Both : ℕ → Type 0
+    abbrev Both : ℕ → Type 0
     Both X = Generating (Among rules) X × Reached (Among rules) S X
 
-    reached-rule :
-        (ρ : Rule) → Among rules ρ → All (Generating (Among rules)) (head ρ ∷ body ρ) →
+    reached-rule : (ρ : Rule) → Among rules ρ → All (Generating (Among rules)) (head ρ ∷ body ρ) →
         Reached (Among rules) S (head ρ) → All Both (body ρ)
-    unfolding Both
     reached-rule (empty A) m (cons a nil) r = nil
     reached-rule (unit A X) m (cons a (cons x nil)) r = cons (x, Reached.by-unit m r) nil
     reached-rule (pair A X Y) m (cons a (cons x (cons y nil))) r =
         cons (x, Reached.by-left m y r) (cons (y, Reached.by-right m x r) nil)
 
-    pub useful-sound : (X : ℕ) → useful rules S X ≡ true → Generating (Among rules) X × Reached (Among rules) S X
-    unfolding useful Both kept
+    useful-sound : (X : ℕ) → useful rules S X ≡ true → Both X
+    unfolding useful
     useful-sound =
-        grown-sound Both Down kept
-        (λ X e.
-        let f = and-left (eqb S X) (productive rules X) e in (
-          productive-sound X (and-right (eqb S X) (productive rules X) e),
-          subst (Reached (Among rules) S) (eqb-true S X f) Reached.start,
-        ))
+        grown-sound Down kept Both
+        (λ X e. (productive-sound X (and-right (eqb S X) _ e), rw (← eqb-true S X (and-left _ _ e)) Reached.start))
         (λ t one ρ m X r e.
         let a = within-among (productive rules) rules ρ m in
         stands-has X (reached-rule ρ (a .0) (all-in (productive rules) (head ρ ∷ body ρ) productive-sound (a .1))
         (one (head ρ) r .1)) e)
 
     -- a rule whose symbols all generate passes usefulness on
-    useful-rule :
-        (ρ : Rule) → Among rules ρ → All (Generating (Among rules)) (head ρ ∷ body ρ) →
+    useful-rule : (ρ : Rule) → Among rules ρ → All (Generating (Among rules)) (head ρ ∷ body ρ) →
         useful rules S (head ρ) ≡ true →
         (X : ℕ) → standsIn X (body ρ) ≡ true → useful rules S X ≡ true
-    unfolding useful kept
+    unfolding useful
     useful-rule ρ m g u X e =
-        grown-closed Down kept (λ X. eqb S X && productive rules X) kept-below ρ
-        (among-within (productive rules) rules ρ m (in-all (productive rules) (λ Y p. productive-complete p) g))
-        X
-        u
-        e
+        grown-closed Down kept _ kept-below ρ
+        (among-within (productive rules) rules ρ m (in-all (productive rules) (λ Y p. productive-complete p) g)) X u e
 
-    pub useful-complete : {X : ℕ} → Reached (Among rules) S X → Generating (Among rules) X → useful rules S X ≡ true
-    unfolding useful kept
-    useful-complete Reached.start g =
-        grown-keeps Down kept (λ X. eqb S X && productive rules X) S
-        (and-both (eqb S S) (productive rules S) (eq-eqb S S refl) (productive-complete g))
+    useful-complete : {X : ℕ} → Reached (Among rules) S X → Generating (Among rules) X → useful rules S X ≡ true
+    unfolding useful
+    useful-complete Reached.start g = grown-keeps Down kept _ S (rw (eq-eqb S S refl) (productive-complete g))
     useful-complete (Reached.by-unit {A = A} {X = X} m r) g =
         let a = generating-rule (unit A X) m (cons g nil) in
         useful-rule (unit A X) m (cons a (cons g nil)) (useful-complete r a) X (stands-first X [])
@@ -164,11 +118,8 @@ module _ (rules : List Rule) (below : Below 64 rules) where
     unfolding AllUseful allIn
     all-useful [] = (λ e. tt, λ e. refl)
     all-useful (X ∷ α) = (
-      λ e. (
-        useful-is X .0 (and-left (useful rules S X) (allIn (useful rules S) α) e),
-        all-useful α .0 (and-right (useful rules S X) (allIn (useful rules S) α) e),
-      ),
-      λ u. and-both (useful rules S X) (allIn (useful rules S) α) (useful-is X .1 (u .0)) (all-useful α .1 (u .1)),
+      λ e. (useful-is X .0 (and-left _ _ e), all-useful α .0 (and-right (useful rules S X) _ e)),
+      λ u. rw (useful-is X .1 (u .0)) (all-useful α .1 (u .1)),
     )
 
     pub useful-rules-are : (ρ : Rule) → Among (usefulRules rules S) ρ ↔ UsefulRules (Among rules) S ρ
@@ -186,8 +137,8 @@ module _ (rules : List Rule) (below : Below 64 rules) where
   pub leads-sound : (Z X : ℕ) → leads rules Z X ≡ true → Leads (Among rules) X Z
   unfolding leads
   leads-sound Z =
-      grown-sound (λ X. Leads (Among rules) X Z) Back rules
-      (λ X e. subst (λ Y. Leads (Among rules) Y Z) (eqb-true Z X e) Leads.here)
+      grown-sound Back rules (λ X. Leads (Among rules) X Z)
+      (λ X e. rw (← eqb-true Z X e) Leads.here)
       (λ t one ρ m X r e.
       stands-has {P = λ X. Leads (Among rules) X Z} X (cons (leads-rule Z ρ m (any-in t (body ρ) one r)) nil) e)
 
@@ -195,14 +146,13 @@ module _ (rules : List Rule) (below : Below 64 rules) where
       (Z : ℕ) (ρ : Rule) → Among rules ρ → Any (λ X. leads rules Z X ≡ true) (body ρ) → leads rules Z (head ρ) ≡ true
   unfolding leads
   leads-back Z ρ m a =
-      grown-closed Back rules (λ X. eqb Z X) below ρ m (head ρ) (in-any (leads rules Z) (λ X p. p) a)
-      (stands-first (head ρ) [])
+      grown-closed Back rules _ below ρ m (head ρ) (in-any (leads rules Z) (λ X p. p) a) (stands-first (head ρ) [])
 
   pub leads-complete : {Z X : ℕ} → Leads (Among rules) X Z → leads rules Z X ≡ true
   unfolding leads
-  leads-complete {Z} Leads.here = grown-keeps Back rules (λ X. eqb Z X) Z (eq-eqb Z Z refl)
+  leads-complete {Z} Leads.here = grown-keeps Back rules _ Z (eq-eqb Z Z refl)
   leads-complete {Z} (Leads.by-unit {A = A} {X = X} m l) = leads-back Z (unit A X) m (here (leads-complete l))
-  leads-complete {Z} (Leads.by-left {A =
-      A} {X = X} {Y = Y} m l) = leads-back Z (pair A X Y) m (here (leads-complete l))
+  leads-complete {Z} (Leads.by-left {A = A} {X = X} {Y = Y} m l) =
+      leads-back Z (pair A X Y) m (here (leads-complete l))
   leads-complete {Z} (Leads.by-right {A = A} {X = X} {Y = Y} m l) =
       leads-back Z (pair A X Y) m (there (here (leads-complete l)))

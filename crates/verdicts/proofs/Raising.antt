@@ -1,17 +1,15 @@
 -- Flags that hold a set: the set can be read off them, and a raised flag adds its symbol to the set. Assumes nothing.
-use mathlib.Core.Path.{_≡_, refl, sym, _∙_, ap}
-use Prim.Native.Nat.{ℕ, _+_, _<_, _≤_}
-use mathlib.Core.Bool.{Bool, true, false, _&&_, _||_, or-true}
-use mathlib.Core.List.{List}
-use native.Mathlib.Omega.{arith}
-use lib.Dec.{eqb}
-use borrow.Author.Tests.{eqb-true, eqb-false, eq-eqb, ne-eqb}
-use lib.ListN.{length, getD, set, length-set}
-use lib.Seq.{getD-set-same, getD-set-other}
+use Rattle.grammar.proofs.Basics.{_≡_, refl, _∙_, sym, ap, true, false, Bool, _&&_, _||_, or-false, or-true, and-false}
+use Rattle.grammar.proofs.Basics.{List, _∷_, [], ℕ, _<_, _≤_, _+_, arith, eqb, length, getD, set, length-set}
+use Rattle.grammar.proofs.Basics.{replicate, getD-set-other, getD-set-same, eq-eqb, ne-eqb, eqb-true, eqb-false, cases}
+use lib.ListN.{getD-replicate}
 use Rattle.grammar.specs.Counting.{one-if, count}
-use Rattle.grammar.proofs.Basics.{cases, true-and-false}
 use Rattle.grammar.proofs.Counting.{count-cong, count-one-more, count-bound}
-use Rattle.verdicts.specs.Inside.Flags.{Flags, flagged, Bits, Raised}
+use Rattle.grammar.specs.Rule.{head}
+use Rattle.verdicts.specs.Sets.{anyIn, standsIn}
+use Rattle.verdicts.specs.Inside.Flags.{Flags, flagged, Bits, Raised, ruleFrom}
+use Rattle.verdicts.proofs.KeyRules.{from-head}
+use Rattle.job.specs.declared.Rule as declared
 
 one-if-test : (b : Bool) → eqb (one-if b) 1 ≡ b
 one-if-test true = refl
@@ -44,69 +42,57 @@ raised-few {t = t} r = omega (arith, r .counted, count-bound t 64)
 pub raised-none : {s : ℕ → Bool} {f : List ℕ} → Flags s f → Raised s s f 0
 raised-none held = record { flags = held; counted = omega arith }
 
-pub raised-then :
-    {s t u : ℕ → Bool} {g h : List ℕ} {a b : ℕ} → Raised s t g a → Raised t u h b → Raised s u h (a + b)
+pub raised-then : {s t u : ℕ → Bool} {g h : List ℕ} {a b : ℕ} → Raised s t g a → Raised t u h b → Raised s u h (a + b)
 raised-then r q = record { flags = q .flags; counted = omega (arith, r .counted, q .counted) }
-
-or-and-false : (a b c : Bool) → b ≡ false → a ≡ (a || (b && c))
-or-and-false true b c e = refl
-or-and-false false true c e = true-and-false refl e
-or-and-false false false c e = refl
 
 module _ {s : ℕ → Bool} {f : List ℕ} (i : ℕ) (test : Bool) (l : i < 64) (held : Flags s f) where
   -- a flag that is not asked for, or is 1 already
   pub raise-unasked : test ≡ false → Raised s (λ X. s X || (test && eqb i X)) f 0
-  raise-unasked e = raised-alike (raised-none held) (λ X _. or-and-false (s X) test (eqb i X) e)
+  raise-unasked e = raised-alike (raised-none held) (λ X _. rw e (sym (or-false (s X))))
+
+  -- nothing changes elsewhere
+  other : (X : ℕ) → (i ≡ X → ⊥) → (s X || (test && eqb i X)) ≡ s X
+  other X d = simp (ne-eqb i X d, and-false, or-false)
 
   pub raise-already : getD f i 0 ≡ 1 → Raised s (λ X. s X || (test && eqb i X)) f 0
-  raise-already e = raised-alike (raised-none held) (λ X _. there X)
-    where
-      on : s i ≡ true
-      on = sym (flags-test held i l) ∙ eq-eqb _ _ e
-
-      absorbed : (a b c : Bool) → (c ≡ true → a ≡ true) → a ≡ (a || (b && c))
-      absorbed true b c h = refl
-      absorbed false true true h = h refl
-      absorbed false true false h = refl
-      absorbed false false c h = refl
-
-      there : (X : ℕ) → s X ≡ (s X || (test && eqb i X))
-      there X = absorbed (s X) test (eqb i X) (λ q. ap s (sym (eqb-true i X q)) ∙ on)
+  raise-already e =
+      let on : s i ≡ true = sym (flags-test held i l) ∙ eq-eqb _ _ e in
+      raised-alike (raised-none held)
+      (λ X _. cases (eqb i X) (λ q. rw (← eqb-true i X q, on)) (λ q. sym (other X (eqb-false i X q))))
 
   -- a flag made 1
   pub raise-new : test ≡ true → (getD f i 0 ≡ 1 → ⊥) → Raised s (λ X. s X || (test && eqb i X)) (set f i 1) 1
   raise-new e d =
+      let on : (s i || (test && eqb i i)) ≡ true = simp (e, eq-eqb i i refl, or-true) in
       record {
-        flags = record { long = length-set f i 1 ∙ held .long; at = at };
+        flags =
+            record {
+              long = length-set f i 1 ∙ held .long;
+              at = λ X m. cases (eqb i X)
+                  (λ q.
+                  let h : i < length f = omega (arith, held .long) in
+                  rw (← eqb-true i X q, getD-set-same f i 1 0 h, on))
+                  (λ q.
+                  let p = eqb-false i X q in
+                  rw (getD-set-other f i X 1 0 (λ z. p (sym z)), other X p) (held .at X m));
+            };
         counted = omega (
           arith,
-          count-one-more s new 64 i l off (rw (e, eq-eqb i i refl) (or-true (s i)))
-              (λ X _ ne. other X ne),
+          count-one-more s (λ X. s X || (test && eqb i X)) 64 i l (sym (flags-test held i l) ∙ ne-eqb _ _ d) on
+              (λ X _ ne. other X (λ z. ne (sym z))),
         );
       }
-    where
-      new : ℕ → Bool
-      new X = s X || (test && eqb i X)
 
-      off : s i ≡ false
-      off = sym (flags-test held i l) ∙ ne-eqb _ _ d
+-- no flag is raised, or each
+pub zeros-held : Flags (λ _. false) (replicate 64 0)
+zeros-held = record { long = refl; at = λ X l. getD-replicate 64 X 0 0 l }
 
-      other : (X : ℕ) → (X ≡ i → ⊥) → new X ≡ s X
-      other X ne = sym (or-and-false′ (s X) test (eqb i X) (ne-eqb i X (λ q. ne (sym q))))
-        where
-          or-and-false′ : (a b c : Bool) → c ≡ false → a ≡ (a || (b && c))
-          or-and-false′ true b c q = refl
-          or-and-false′ false true c q = sym q
-          or-and-false′ false false c q = refl
+pub ones-held : Flags (λ _. true) (replicate 64 1)
+ones-held = record { long = refl; at = λ X l. getD-replicate 64 X 1 0 l }
 
-      at : (X : ℕ) → X < 64 → getD (set f i 1) X 0 ≡ one-if (new X)
-      at X m =
-          cases
-          (eqb X i)
-          (λ q.
-          let p : X ≡ i = eqb-true X i q in
-          let h : i < length f = omega (arith, held .long) in
-          rw (p, getD-set-same f i 1 0 h, e, eq-eqb i i refl, or-true))
-          (λ q.
-          let p : ¬ (X ≡ i) = eqb-false X i q in
-          getD-set-other f i X 1 0 p ∙ held .at X m ∙ ap one-if (sym (other X p)))
+-- the head of a rule raised
+pub raise-head : (r : declared.Rule) (test : Bool) {s : ℕ → Bool} {g : List ℕ} {a : ℕ} →
+    Raised s (λ X. s X || (test && eqb (r .head) X)) g a →
+    Raised s (λ X. s X || (test && standsIn X (head (ruleFrom r) ∷ []))) g a
+unfolding anyIn
+raise-head r test q = raised-alike q (λ X _. simp (from-head r, or-false))

@@ -20,16 +20,5 @@ loop-again : tie.Need-loop-again Inv-loop μ-loop
 loop-again c = c .before .before .put .kept .0 ∙ c .before .before .before .before .before .before .loop .inv
 
 pub fill-spec : {M : Type 1} → statement M
-fill-spec =
-    tie.close
-    (tie.spec
-    Inv-loop
-    μ-loop
-    loop-holds
-    (λ c κs. search needs)
-    (λ c κs. omega arith)
-    (λ c. omega arith)
-    (λ c. omega arith)
-    loop-again
-    (λ c. c .before .loop .inv)
-    (λ c. search needs))
+fill-spec = tie.close (tie.spec Inv-loop μ-loop loop-holds (λ c κs. search needs) (λ c κs. omega arith)
+    (λ c. omega arith) (λ c. omega arith) loop-again (λ c. c .before .loop .inv) (λ c. search needs))

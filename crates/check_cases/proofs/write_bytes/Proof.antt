@@ -12,15 +12,5 @@ abbrev μ-loop : tie.MeasureT-loop
 μ-loop part i₀ i = length part - i
 
 pub write-bytes-spec : {M : Type 1} → statement M
-write-bytes-spec =
-    tie.close
-    (tie.spec
-    Inv-loop
-    μ-loop
-    (λ c. tt)
-    (λ c. omega arith)
-    (λ c κs. tt)
-    (λ c. omega arith)
-    (λ c. omega arith)
-    (λ c. tt)
-    (λ c. tt))
+write-bytes-spec = tie.close (tie.spec Inv-loop μ-loop (λ c. tt) (λ c. omega arith) (λ c κs. tt) (λ c. omega arith)
+    (λ c. omega arith) (λ c. tt) (λ c. tt))

@@ -20,14 +20,6 @@ module _ (n : ℕ) (bytes : List ℕ) where
   none h = rw (lt-leb n (length bytes) h)
 
 pub part-spec : {M : Type 1} → statement M
-part-spec =
-    tie.close
-    (tie.spec
-    (λ c. search needs)
-    (λ c. search needs)
-    (λ c. search needs)
-    (λ c. whole _ _ (c .before .if1 .taken))
-    (λ c. search needs)
-    (λ c. search needs)
-    (λ c. search needs)
+part-spec = tie.close (tie.spec (λ c. search needs) (λ c. search needs) (λ c. search needs)
+    (λ c. whole _ _ (c .before .if1 .taken)) (λ c. search needs) (λ c. search needs) (λ c. search needs)
     (λ c. none _ (c .before .before .args .buf .now) (c .before .if1 .left)))

@@ -11,9 +11,4 @@ long : (n : ℕ) → n ≡ length {A = ℕ} (replicate n 0)
 long n = sym (length-replicate n 0)
 
 pub explain-spec : {M : Type 1} → statement M
-explain-spec =
-    tie.close
-    (tie.spec
-    (λ c. long 2424874)
-    (λ c κs. search needs)
-    (λ c. search needs))
+explain-spec = tie.close (tie.spec (λ c. long 2424874) (λ c κs. search needs) (λ c. search needs))

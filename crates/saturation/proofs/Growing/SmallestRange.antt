@@ -1,9 +1,8 @@
 -- What the ranges of a job make of its smallest set: its transitions are between states of the job, its labels are
 -- symbols, and its meetings are bounded. Assumes nothing.
-use Prim.Native.Nat.{ℕ, _*_, _≤_, _<_}
+use Rattle.grammar.proofs.Basics.{ℕ, _<_, _≤_, _*_, arith}
 use native.Mathlib.Nat.{mul-le-mul}
-use native.Mathlib.Omega.{arith}
-use Rattle.grammar.specs.Rule.{empty, unit, pair}
+use Rattle.grammar.specs.Rule.{empty}
 use Rattle.grammar.specs.Automaton.{Holds, StatesBelow}
 use Rattle.grammar.specs.Closure.{Closure}
 use Rattle.grammar.specs.Counting.{pairRules}
@@ -25,8 +24,7 @@ job-in-range J range =
 -- 256 pair rules and 32 states
 pub pair-states-bound : (J : Job) → InRange J → pairRules (J .rules) * (J .states * J .states * J .states) ≤ 8388608
 pair-states-bound J range =
-    mul-le-mul {n₂ = 256} {m₂ = 32768}
-    (omega (arith, pair-rules-within (J .rules), range .rule-count))
+    mul-le-mul {n₂ = 256} {m₂ = 32768} (omega (arith, pair-rules-within (J .rules), range .rule-count))
     (mul-le-mul (mul-le-mul (range .states) (range .states)) (range .states))
 
 pub smallest-states : (J : Job) → InRange J → StatesBelow (Smallest J) (J .states)
@@ -35,6 +33,5 @@ smallest-states J range = closure-below (job-in-range J range .states)
 pub smallest-symbol : (J : Job) → InRange J → (q X r : ℕ) → Smallest J q X r → X < 64
 smallest-symbol J range q X r (Closure.given d) = range .given-symbol q X r d
 smallest-symbol J range q X r (Closure.by-empty member l) = omega (arith, range .rules (empty X) member)
-smallest-symbol J range q X r (Closure.by-unit {X = Y} member c) = omega (arith, range .rules (unit X Y) member .0)
-smallest-symbol J range q X r (Closure.by-pair {X = Y} {Y = Z} member c d) =
-    omega (arith, range .rules (pair X Y Z) member .0)
+smallest-symbol J range q X r (Closure.by-unit {X = Y} member c) = omega (arith, range .rules _ member .0)
+smallest-symbol J range q X r (Closure.by-pair {X = Y} {Y = Z} member c d) = omega (arith, range .rules _ member .0)

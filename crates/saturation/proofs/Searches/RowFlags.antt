@@ -1,18 +1,11 @@
 -- The flags of rows and blocks through a search: a flag is cleared only where nothing is pending, so the flags go on
 -- saying the truth. Assumes nothing.
-use mathlib.Core.Path.{_≡_, refl, sym, _∙_}
-use mathlib.Core.Bool.{false}
-use mathlib.Core.List.{List, [], _∷_}
-use Prim.Native.Nat.{ℕ, zero, suc, _+_, _*_, _-_, _/_, _%_, _≤_, _<_}
-use native.Mathlib.Omega.{arith}
-use lib.Dec.{eqb, ltb}
-use lib.ListN.{getD, set}
-use lib.Seq.{getD-set-other}
-use borrow.Author.Tests.{ltb-true, ltb-false, eqb-true, eqb-false}
+use Rattle.grammar.proofs.Basics.{_≡_, refl, _∙_, sym, List, _∷_, [], ℕ, _<_, _≤_, _+_, suc, _-_, zero, _*_, _/_, _%_}
+use Rattle.grammar.proofs.Basics.{arith, eqb, ltb, getD, set, getD-set-other, eqb-true, eqb-false, ltb-false, ltb-true}
 use Rattle.grammar.proofs.Basics.{cases}
-use Rattle.saturation.specs.Table.{tableSize, isPending}
+use Rattle.saturation.specs.Table.{tableSize}
 use Rattle.saturation.specs.Inside.Search.{Flags, LowestIn, RowsIdle, RowsSearched}
-use Rattle.saturation.proofs.Searches.Searching.{lowest-none, lowest-next, lowest-found}
+use Rattle.saturation.proofs.Searches.Searching.{vain, lowest-none, lowest-next, lowest-found}
 
 -- a flag that is cleared is 0, and what was 0 stays so
 cleared-here : (l : List ℕ) (i : ℕ) → getD (set l i 0) i 0 ≡ 0
@@ -22,29 +15,11 @@ cleared-here (x ∷ l) (suc i) = cleared-here l i
 
 cleared-stays : (l : List ℕ) (i k : ℕ) → getD l k 0 ≡ 0 → getD (set l i 0) k 0 ≡ 0
 cleared-stays l i k e =
-    cases
-    (eqb k i)
+    cases (eqb k i)
     (λ c. rw (eqb-true k i c) (cleared-here l i))
     (λ c. getD-set-other l i k 0 0 (eqb-false k i c) ∙ e)
 
 module _ (t : List ℕ) where
-  -- a row in which nothing is pending is searched in vain, and the other way round
-  idle-row : (row : ℕ) → ((j : ℕ) → j < 32 → isPending (getD t (row * 32 + j) 0) ≡ false) →
-      LowestIn t (row * 32) ((row + 1) * 32) tableSize
-  idle-row row idle =
-      record {
-        within = omega arith;
-        found = λ h. absurd (omega arith);
-        noneBefore =
-            λ k f u h. let s : row * 32 + (k - row * 32) ≡ k = omega arith in rw s at
-            (idle (k - row * 32) (omega arith));
-      }
-
-  row-idle :
-      (row : ℕ) → row < 2048 → LowestIn t (row * 32) ((row + 1) * 32) tableSize →
-      (j : ℕ) → j < 32 → isPending (getD t (row * 32 + j) 0) ≡ false
-  row-idle row l s j h = s .noneBefore (row * 32 + j) (omega arith) (omega arith) (omega arith)
-
   module _ (rows : List ℕ) (idle : RowsIdle rows t) where
     -- no row
     pub rows-none : (row : ℕ) → RowsSearched t rows rows row 0 tableSize
@@ -53,15 +28,17 @@ module _ (t : List ℕ) where
           place = lowest-none t _ _ (omega arith);
           idle = idle;
           cleared = λ k e. e;
-          passed = λ e j h. absurd
-              (omega arith);
+          passed = λ e j h. absurd (omega arith);
         }
 
     -- a row whose flag is 0
     pub row-skipped : (row : ℕ) → row < 2048 → getD rows row 0 ≡ 0 → RowsSearched t rows rows row 1 tableSize
     row-skipped row l e =
         record {
-          place = idle-row row (idle row l e);
+          place = vain t _ _
+              (λ k f u h.
+              let s : row * 32 + (k - row * 32) ≡ k = omega arith in
+              rw s at (idle row l e (k - row * 32) (omega arith)));
           idle = idle;
           cleared = λ k z. z;
           passed = λ q j h. let s : row + j ≡ row = omega arith in rw s e;
@@ -73,40 +50,31 @@ module _ (t : List ℕ) where
     row-found row p n s = record { place = s; idle = idle; cleared = λ k z. z; passed = λ q j h. absurd (n q) }
 
     -- a row without, whose flag is cleared
-    pub row-cleared :
-        (row p : ℕ) → row < 2048 → p ≡ tableSize → LowestIn t (row * 32) ((row + 1) * 32) p →
+    pub row-cleared : (row p : ℕ) → row < 2048 → p ≡ tableSize → LowestIn t (row * 32) ((row + 1) * 32) p →
         RowsSearched t rows (set rows row 0) row 1 p
     row-cleared row p l e s =
         record {
           place = s;
-          idle =
-              λ k h z.
-              cases
-              (eqb k row)
-              (λ c. rw (eqb-true k row c) (row-idle row l (rw e at s)))
+          idle = λ k h z. cases (eqb k row)
+              (λ c. rw (eqb-true k row c) (λ j u. s .noneBefore _ (omega arith) (omega arith) (omega arith)))
               (λ c. idle k h (sym (getD-set-other rows row k 0 0 (eqb-false k row c)) ∙ z));
-          cleared = λ k z. cleared-stays rows row k z;
+          cleared = cleared-stays rows row;
           passed = λ q j h. let same : row + j ≡ row = omega arith in rw same (cleared-here rows row);
         }
 
   module _ (rows rows' : List ℕ) where
     -- rows searched in vain, and the next row
-    pub rows-next :
-        (rows'' : List ℕ) (row n p : ℕ) → RowsSearched t rows rows' row n tableSize →
+    pub rows-next : (rows'' : List ℕ) (row n p : ℕ) → RowsSearched t rows rows' row n tableSize →
         RowsSearched t rows' rows'' (row + n) 1 p →
         RowsSearched t rows rows'' row (n + 1) p
     rows-next rows'' row n p s m =
         record {
-          place =
-              let same : (row + n + 1) * 32 ≡ (row + (n + 1)) * 32 = omega arith in
+          place = let same : (row + n + 1) * 32 ≡ (row + (n + 1)) * 32 = omega arith in
               lowest-next t _ _ _ _ _ (omega arith) (omega arith) (s .place) (rw same at (m .place));
           idle = m .idle;
           cleared = λ k z. m .cleared k (s .cleared k z);
-          passed =
-              λ e j h.
-              cases
-              (ltb j n)
-              (λ c. m .cleared (row + j) (s .passed refl j (ltb-true j n c)))
+          passed = λ e j h. cases (ltb j n)
+              (λ c. m .cleared _ (s .passed refl j (ltb-true j n c)))
               (λ c.
               let same : row + n + 0 ≡ row + j = omega (arith, ltb-false j n c) in
               rw same at (m .passed e 0 (omega arith)));
@@ -127,26 +95,17 @@ module _ (t : List ℕ) where
       -- the search of some rows leaves the blocks' flags true
       pub flags-kept : (row n p : ℕ) → RowsSearched t rows rows' row n p → Flags rows' blocks t
       flags-kept row n p s =
-          record {
-            rowsIdle = s .idle;
-            blocksIdle = λ q l e j h. s .cleared (q * 64 + j)
-                (flags .blocksIdle q l e j h);
-          }
+          record { rowsIdle = s .idle; blocksIdle = λ q l e j h. s .cleared _ (flags .blocksIdle q l e j h) }
 
       -- and that of a block in vain allows to clear its flag
-      pub flags-cleared :
-          (block p : ℕ) → p ≡ tableSize → RowsSearched t rows rows' (block * 64) 64 p →
+      pub flags-cleared : (block p : ℕ) → p ≡ tableSize → RowsSearched t rows rows' (block * 64) 64 p →
           Flags rows' (set blocks block 0) t
       flags-cleared block p e s =
           record {
             rowsIdle = s .idle;
-            blocksIdle =
-                λ q l z j h.
-                cases
-                (eqb q block)
+            blocksIdle = λ q l z j h. cases (eqb q block)
                 (λ c. rw (eqb-true q block c) (s .passed e j h))
-                (λ c.
-                s .cleared (q * 64 + j)
+                (λ c. s .cleared _
                 (flags .blocksIdle q l (sym (getD-set-other blocks block q 0 0 (eqb-false q block c)) ∙ z) j h));
           }
 
@@ -155,21 +114,15 @@ module _ (t : List ℕ) where
       (rows blocks : List ℕ) → Flags rows blocks t → (block : ℕ) → block < 32 → getD blocks block 0 ≡ 0 →
       LowestIn t (block * 2048) ((block + 1) * 2048) tableSize
   block-skipped rows blocks flags block l e =
-      record {
-        within = omega arith;
-        found = λ h. absurd (omega arith);
-        noneBefore =
-            λ k f u h.
-            let row : ℕ = k / 32 - block * 64 in
-            let same : (block * 64 + row) * 32 + k % 32 ≡ k = omega arith in
-            rw same at
-            (flags .rowsIdle (block * 64 + row) (omega arith) (flags .blocksIdle block l e row (omega arith)) (k % 32)
-            (omega arith));
-      }
+      vain t _ _
+      (λ k f u h.
+      let row = k / 32 - block * 64 in
+      let same : (block * 64 + row) * 32 + k % 32 ≡ k = omega arith in
+      rw same at
+      (flags .rowsIdle _ (omega arith) (flags .blocksIdle block l e row (omega arith)) (k % 32) (omega arith)))
 
   -- the rows of a block are its places
-  pub block-place :
-      (block p : ℕ) → LowestIn t (block * 64 * 32) ((block * 64 + 64) * 32) p →
+  pub block-place : (block p : ℕ) → LowestIn t (block * 64 * 32) ((block * 64 + 64) * 32) p →
       LowestIn t (block * 2048) ((block + 1) * 2048) p
   block-place block p s =
       let from : block * 64 * 32 ≡ block * 2048 = omega arith in

@@ -1,10 +1,6 @@
 -- Start writes what it is to write: cleared memory, then the records one after the other, then the rules in the order
 -- of their ranks. Assumes nothing.
-use mathlib.Core.Path.{_≡_, _∙_, ap}
-use mathlib.Core.Bool.{Bool, false}
-use mathlib.Core.List.{List}
-use Prim.Native.Nat.{ℕ, _≤_}
-use lib.ListN.{length}
+use Rattle.grammar.proofs.Basics.{_≡_, false, Bool, List, ℕ, _≤_, length}
 use Rattle.grammar.specs.Rule.{empty}
 use Rattle.job.specs.Format.{recordsOf}
 use Rattle.job.specs.Accepted.{Accepted}
@@ -17,8 +13,7 @@ use Rattle.saturation.specs.Inside.StartParts.{givingAll, loopingAll}
 use Rattle.saturation.proofs.Starts.StartGiven.{cleared-written, giving-all-written}
 use Rattle.saturation.proofs.Starts.StartRules.{looping-all-written, started-written}
 
-pub all-written :
-    {needed : Bool} (job : List ℕ) → Accepted needed job →
+pub all-written : {needed : Bool} (job : List ℕ) → Accepted needed job →
     (m : Lent) → tableSize ≤ length (m .table) → reasonsSize ≤ length (m .reasons) →
     loopingAll (jobOf job .states) 0 (jobOf job .rules)
     (givingAll (recordsOf job) (lentOf (cleared tableSize (m .table)) (cleared reasonsSize (m .reasons))))
@@ -26,10 +21,10 @@ pub all-written :
 unfolding jobOf jobOfRecords
 all-written job ok m long long-reasons =
     let range = in-range ok in
-    let J = jobOf job in
-    ap (λ (l : Lent). loopingAll (J .states) 0 (J .rules) (givingAll (recordsOf job) l)) (cleared-written m)
-    ∙ ap (loopingAll (J .states) 0 (J .rules))
-    (giving-all-written m long long-reasons (λ q X r. false) (λ q X. 0) (recordsOf job) (transition-fits ok))
-    ∙ looping-all-written m long long-reasons (J .given) (λ q X. 0) (J .states) 0 (J .rules) (range .states)
-    (λ A member. range .rules (empty A) member)
-    ∙ started-written J m
+    rw (
+      cleared-written m,
+      giving-all-written m long long-reasons (λ q X r. false) (λ q X. 0) (recordsOf job) (transition-fits ok),
+      looping-all-written m long long-reasons (jobOf job .given) (λ q X. 0) (jobOf job .states) 0 (jobOf job .rules)
+          (range .states) (λ A. range .rules (empty A)),
+      started-written (jobOf job) m,
+    )

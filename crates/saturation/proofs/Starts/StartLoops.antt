@@ -1,18 +1,15 @@
 -- The ε transitions that start writes. A loop keeps the first reason that it gets; the rules come in the order of
 -- their ranks, so that is the least. Assumes nothing.
-use mathlib.Core.Path.{_≡_, refl, sym, _∙_, ap}
-use mathlib.Core.Bool.{Bool, true, false, cond, _&&_, false≢true}
-use Prim.Native.Nat.{ℕ, _≤_, _<_}
-use native.Mathlib.Omega.{arith}
-use lib.Dec.{eqb}
-use lib.ListN.{length, set}
-use borrow.Author.Tests.{eqb-true, leb-true, leb-false, eq-eqb, ne-eqb, le-leb}
-use Rattle.grammar.proofs.Basics.{cases, and-left, and-right}
-use Rattle.saturation.specs.Table.{Lent, tableSize, reasonsSize, place, reasonPlace, when}
+use Rattle.grammar.proofs.Basics.{_≡_, refl, _∙_, sym, ap₂, ⊎-elim, true, false, Bool, _&&_, cond, _||_, List, ℕ, _<_}
+use Rattle.grammar.proofs.Basics.{_≤_, arith, eqb, leb, length, set, eq-eqb, ne-eqb, eqb-true, le-leb, leb-true}
+use Rattle.grammar.proofs.Basics.{leb-false, cases, and-left, and-right, or-split, or-left, not-true-false}
+use Rattle.grammar.proofs.Basics.{true-and-false}
+use Rattle.grammar.proofs.Meetings.{Test}
+use Rattle.saturation.specs.Table.{Lent, lentOf, tableSize, reasonsSize, givenReason, when, each}
 use Rattle.saturation.specs.Inside.Offers.{offerTo, addOffer}
-use Rattle.saturation.proofs.Starts.Written.{written, written-cong, written-byte, set-byte, set-reason}
+use Rattle.saturation.proofs.Tables.Layouts.{Layout, bytes, reasons, laid, laid-at, set-laid}
 use Rattle.saturation.proofs.Offers.Adding.{reason-place-of}
-use Rattle.saturation.proofs.Starts.StartGiven.{isThere, reasonThere, thereBy, reasonBy, withLoops}
+use Rattle.saturation.proofs.Starts.StartGiven.{Loops, standing, half, oneIf, withLoops}
 
 -- the first of two reasons that is there
 abbrev pub earlier : ℕ → ℕ → ℕ
@@ -27,83 +24,60 @@ earlier-associates a b c = cases (eqb a 0) (λ e. rw e) (λ e. rw (e, e))
 pub earlier-there : (a b : ℕ) → 1 ≤ a → earlier a b ≡ a
 earlier-there a b h = rw (ne-eqb a 0 (λ z. omega arith))
 
--- a transition that is there keeps its reason
-there-stays :
-    {Z : Type 0} (F : Bool → Bool → ℕ → Z) → ((s : Bool) (m n : ℕ) → F true s m ≡ F true s n) →
-    ((g : Bool) (m n : ℕ) → F g false m ≡ F g false n) →
-    (g s : Bool) (n v : ℕ) → isThere g s n ≡ true → F g s (earlier n v) ≡ F g s n
-there-stays F given straight true s n v e = given s (earlier n v) n
-there-stays F given straight false false n v e = straight false (earlier n v) n
-there-stays F given straight false true n v e = ap (F false true) (earlier-there n v (leb-true 1 n e))
+-- the byte of a transition that is given or has the reason of a loop
+one-if-either : (g b : Bool) → cond g 1 (when b 1) ≡ when (g || b) 1
+one-if-either true b = refl
+one-if-either false b = refl
 
--- one that is not there gets it
-pub record Fresh (g : Bool) (n v : ℕ) : Type 0 where
-  pub there : isThere g true (earlier n v) ≡ true
-  pub reason : reasonThere g true (earlier n v) ≡ v
-
-fresh : (g : Bool) (n v : ℕ) → 1 ≤ v → isThere g true n ≡ false → Fresh g n v
-fresh true n v h e = absurd (false≢true (sym e))
-fresh false n v h e =
-    let z : n ≡ 0 = omega (arith, leb-false 1 n e) in
-    record { there = rw (z, le-leb 1 v h); reason = rw z }
-
-module _ (A v q : ℕ) (loop : ℕ → ℕ → ℕ) where
+module _ (given : Test) (loop : Loops) (A v q : ℕ) where
   -- the loops once that of a variable at a state got a reason
-  abbrev pub withLoop : ℕ → ℕ → ℕ
+  abbrev pub withLoop : Loops
   withLoop a Y = earlier (loop a Y) (when (eqb a q && eqb A Y) v)
 
-  elsewhere :
-      {Z : Type 0} (F : Bool → Bool → ℕ → Z) → ((g : Bool) (m n : ℕ) → F g false m ≡ F g false n) →
-      (g : Bool) (a Y b : ℕ) → (a ≡ q → Y ≡ A → b ≡ q → ⊥) → F g (eqb a b) (withLoop a Y) ≡ F g (eqb a b) (loop a Y)
-  elsewhere F straight g a Y b d =
-      cases
-      (eqb a q && eqb A Y)
-      (λ e.
-      let aq : a ≡ q = eqb-true a q (and-left (eqb a q) (eqb A Y) e) in
-      let ya : A ≡ Y = eqb-true A Y (and-right (eqb a q) (eqb A Y) e) in
-      rw (ne-eqb a b (λ ab. d aq (sym ya) (sym ab ∙ aq))) (straight g (withLoop a Y) (loop a Y)))
-      (λ e. ap (F g (eqb a b)) (rw e (earlier-none (loop a Y))))
+  abbrev isThere : Test
+  isThere a Y b = given a Y b || leb 1 (loop a Y)
 
-  -- where the loop's transition is there already, nothing changes
-  everywhere :
-      {Z : Type 0} (F : Bool → Bool → ℕ → Z) → ((s : Bool) (m n : ℕ) → F true s m ≡ F true s n) →
-      ((g : Bool) (m n : ℕ) → F g false m ≡ F g false n) →
-      (given : ℕ → ℕ → ℕ → Bool) → thereBy given loop q A q ≡ true →
-      (a Y b : ℕ) → F (given a Y b) (eqb a b) (withLoop a Y) ≡ F (given a Y b) (eqb a b) (loop a Y)
-  everywhere F constant straight given e a Y b =
-      cases
-      (thereBy given loop a Y b)
-      (λ f. there-stays F constant straight (given a Y b) (eqb a b) (loop a Y) (when (eqb a q && eqb A Y) v) f)
-      (λ f. elsewhere F straight (given a Y b) a Y b
-      (λ o p r. false≢true (sym f ∙ (λ i. thereBy given loop (o i) (p i) (r i)) ∙ e)))
+  -- in the table and in the reasons alike
+  module _ (L : Layout) (top : ℕ) (of : ℕ → ℕ) where
+    -- nothing changes but at the loop, and there only where it was not there already
+    unchanged : (a Y b old : ℕ) → (a ≡ q → Y ≡ A → b ≡ q → isThere a Y b ≡ true) →
+        standing top of given withLoop a Y b old ≡ standing top of given loop a Y b old
+    unchanged a Y b old there =
+        cases (eqb a q && eqb A Y)
+        (λ e. cases (eqb a b)
+        (λ s.
+        let aq = eqb-true a q (and-left _ _ e) in
+        ⊎-elim
+        (λ g. rw g)
+        (λ n. rw (earlier-there _ _ (leb-true 1 _ n)))
+        (or-split (given a Y b) _
+        (there aq (sym (eqb-true A Y (and-right (eqb a q) _ e))) (sym (eqb-true a b s) ∙ aq))))
+        (λ s. rw s))
+        (λ e. rw (e, earlier-none))
+
+    half-stays : (l : List ℕ) → isThere q A q ≡ true → half L top of given loop l ≡ half L top of given withLoop l
+    half-stays l e i = each (laid L (λ a Y b old. sym (unchanged a Y b old (λ x y z. rw (x, y, z) e)) i)) 0 l
+
+    half-set : (l : List ℕ) (w : ℕ) → L .size ≤ length l → q < 32 → A < L .symbols → isThere q A q ≡ false → of v ≡ w →
+        set (half L top of given loop l) (L .at q A q) w ≡ half L top of given withLoop l
+    half-set l w long ql al e is =
+        let g = not-true-false _ (λ f. true-and-false (or-left (given q A q) _ f) e) in
+        let z : loop q A ≡ 0 = omega (arith, leb-false 1 (loop q A) (rw g at e)) in
+        set-laid L _ l q A q long ql al ql _ w
+        (λ old. rw (g, z, eq-eqb, eq-eqb) is)
+        (λ a Y b old d. unchanged a Y b old (λ x y z. absurd (d x y z)))
 
 module _ (m : Lent) (long : tableSize ≤ length (m .table)) (long-reasons : reasonsSize ≤ length (m .reasons)) where
-  pub looping-written :
-      (given : ℕ → ℕ → ℕ → Bool) (loop : ℕ → ℕ → ℕ) (A v q : ℕ) → 1 ≤ v → A < 32 → q < 32 →
-      addOffer (offerTo q A q v) (withLoops given loop m) ≡ withLoops given (withLoop A v q loop) m
-  unfolding addOffer withLoops written
+  pub looping-written : (given : Test) (loop : Loops) (A v q : ℕ) → 1 ≤ v → A < 32 → q < 32 →
+      addOffer (offerTo q A q v) (withLoops given loop m) ≡ withLoops given (withLoop given loop A v q) m
+  unfolding addOffer withLoops
   looping-written given loop A v q h al ql =
-      let there = thereBy given loop in
-      let there' = thereBy given (withLoop A v q loop) in
-      let reason = reasonBy given loop in
-      let reason' = reasonBy given (withLoop A v q loop) in
-      let byte = written-byte m there reason q A q long ql (omega arith) ql in
-      cases
-      (there q A q)
-      (λ e.
-      rw (byte, e)
-      (sym (written-cong there' there reason' reason m
-      (everywhere A v q loop isThere (λ s k n. refl) (λ g k n. refl) given e)
-      (λ a Y b l. everywhere A v q loop reasonThere (λ s k n. refl) (λ g k n. refl) given e a Y b))))
-      (λ e.
-      let self : eqb q q ≡ true = eq-eqb q q refl in
-      let f = fresh (given q A q) (loop q A) v h (rw self at e) in
-      let t : set (written there reason m .table) (place q A q) 1 ≡ written there' reason' m .table =
-      set-byte m there there' reason q A q long ql (omega arith) ql
-      (rw (self, eq-eqb A A refl) (f .there))
-      (λ a Y b. elsewhere A v q loop isThere (λ g k n. refl) (given a Y b) a Y b) in
-      let rs : set (written there reason m .reasons) (reasonPlace q A q) v ≡ written there' reason' m .reasons =
-      set-reason m there reason reason' q A q v long-reasons ql al ql
-      (rw (self, eq-eqb A A refl) (f .reason))
-      (λ a Y b. elsewhere A v q loop reasonThere (λ g k n. refl) (given a Y b) a Y b) in
-      rw (byte, e, reason-place-of q A q al ql) (λ i. record { table = t i; reasons = rs i }))
+      let byte = rw (eq-eqb q q refl, one-if-either) at
+      (laid-at bytes (standing 1 oneIf given loop) (m .table) q A q long ql (omega arith) ql) in
+      cases (given q A q || leb 1 (loop q A))
+      (λ e. rw (byte, e)
+      (ap₂ lentOf (half-stays given loop A v q bytes 1 oneIf (m .table) e)
+      (half-stays given loop A v q reasons givenReason (λ n. n) (m .reasons) e)))
+      (λ e. rw (byte, e, reason-place-of)
+      (ap₂ lentOf (half-set given loop A v q bytes 1 oneIf (m .table) 1 long ql (omega arith) e (rw le-leb))
+      (half-set given loop A v q reasons givenReason (λ n. n) (m .reasons) v long-reasons ql al e refl)))

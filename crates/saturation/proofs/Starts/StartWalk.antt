@@ -1,13 +1,8 @@
 -- A walk over the records or the rules that changes what is lent for each of them: what is done and what is still to
 -- do, from element i on, make up the whole. Assumes nothing.
-use mathlib.Core.Path.{_≡_, refl, sym, _∙_, ap}
-use mathlib.Core.List.{List, [], _∷_}
-use Prim.Native.Nat.{ℕ, suc, _≤_, _<_, _+_}
-use native.Mathlib.Numerals.{add-one}
-use native.Mathlib.Omega.{arith}
-use lib.ListN.{length, getD, drop, drop-of-length-le}
-use lib.Seq.{drop-cons}
-use Rattle.saturation.specs.Table.{Lent}
+use Rattle.grammar.proofs.Basics.{_≡_, refl, List, _∷_, [], ℕ, _<_, _≤_, _+_, suc, add-one, arith, length, getD, drop}
+use Rattle.grammar.proofs.Basics.{drop-of-length-le, drop-cons}
+use Rattle.saturation.specs.Table.{Lent, lentOf}
 use Rattle.saturation.proofs.Tables.SameLengths.{AsLong, as-long, then-long}
 
 -- What holds once i changes are made. `all` is the change for a list of elements from an index on.
@@ -21,20 +16,16 @@ walk-begins all l m = record { within = omega arith; long = as-long m; left = re
 
 module _ {A : Type 0} (all : ℕ → List A → Lent → Lent) (l : List A) (m m' : Lent) (i : ℕ)
     (so-far : Walked all l m m' i) where
-  pub walk-goes-on :
-      (one : ℕ → A → Lent → Lent) →
+  pub walk-goes-on : (one : ℕ → A → Lent → Lent) →
       ((i : ℕ) (x : A) (xs : List A) (n : Lent) → all i (x ∷ xs) n ≡ all (suc i) xs (one i x n)) →
-      (default : A) (m'' : Lent) → i < length l → m'' ≡ one i (getD l i default) m' → AsLong m' m'' →
-      Walked all l m m'' (i + 1)
-  walk-goes-on one first default m'' h e long =
+      (default : A) (t t' : List ℕ) → i < length l → lentOf t t' ≡ one i (getD l i default) m' →
+      length t ≡ length (m' .table) → length t' ≡ length (m' .reasons) → Walked all l m (lentOf t t') (i + 1)
+  walk-goes-on one first default t t' h e long long' =
       record {
         within = omega arith;
-        long = then-long m m' m'' (so-far .long) long;
-        left =
-            rw (add-one, e)
-            (sym (first i (getD l i default) (drop (suc i) l) m')
-            ∙ ap (λ (k : List A). all i k m') (sym (drop-cons l i default h)) ∙ so-far .left);
+        long = then-long m m' _ (so-far .long) (record { table = long; reasons = long' });
+        left = rw add-one (rw (drop-cons l i default h, first, ← e) at (so-far .left));
       }
 
   pub walk-ends : ((i : ℕ) (n : Lent) → all i [] n ≡ n) → length l ≤ i → m' ≡ all 0 l m
-  walk-ends none h = sym (none i m') ∙ ap (λ (k : List A). all i k m') (sym (drop-of-length-le l h)) ∙ so-far .left
+  walk-ends none h = rw (drop-of-length-le l h, none) at (so-far .left)

@@ -1,13 +1,8 @@
 -- Laws of `firstFrom`: the first number that passes a test passes, and comes before every other that does. By
 -- induction on how many numbers are tried. Assumes nothing.
-use mathlib.Core.Path.{_≡_, refl, sym}
-use mathlib.Core.Bool.{Bool, true, false, cond}
-use Prim.Native.Nat.{ℕ, zero, suc, _+_, _-_, _≤_, _<_}
-use native.Mathlib.Omega.{arith}
-use native.Mathlib.Numerals.{add-one}
-use lib.Dec.{eqb, ltb}
-use borrow.Author.Tests.{ltb-true, ltb-false, eqb-true, eqb-false}
-use Rattle.grammar.proofs.Basics.{cases, true-and-false, not-true-false}
+use Rattle.grammar.proofs.Basics.{_≡_, refl, sym, true, false, Bool, cond, ℕ, _<_, _≤_, _+_, suc, _-_, zero, add-one}
+use Rattle.grammar.proofs.Basics.{arith, eqb, ltb, eqb-true, eqb-false, ltb-false, ltb-true, cases, true-and-false}
+use Rattle.grammar.proofs.Basics.{not-true-false}
 use Rattle.saturation.specs.Step.{firstFrom}
 
 -- one step of the search
@@ -23,13 +18,13 @@ first-later f i k e = rw e
 pub search-stops : (f : ℕ → Bool) (n i : ℕ) → i < n → f i ≡ true → firstFrom f i (n - i) ≡ i
 search-stops f n i l e =
     let left : n - i ≡ suc (n - (i + 1)) = omega arith in
-    rw left (first-here f i (n - (i + 1)) e)
+    rw left (first-here f i _ e)
 
 pub search-goes-on :
     (f : ℕ → Bool) (n i : ℕ) → i < n → f i ≡ false → firstFrom f (i + 1) (n - (i + 1)) ≡ firstFrom f i (n - i)
 search-goes-on f n i l e =
     let left : n - i ≡ suc (n - (i + 1)) = omega arith in
-    rw (left, add-one i) (sym (first-later f i (n - suc i) e))
+    rw (left, add-one) (sym (first-later f i _ e))
 
 pub search-ends : (f : ℕ → Bool) (n i : ℕ) → n ≤ i → firstFrom f i (n - i) ≡ i
 unfolding firstFrom
@@ -38,8 +33,7 @@ search-ends f n i l =
     rw none
 
 -- tests that agree find the same first
-pub first-cong :
-    (f g : ℕ → Bool) (i k : ℕ) → ((j : ℕ) → j < i + k → f j ≡ g j) → firstFrom f i k ≡ firstFrom g i k
+pub first-cong : (f g : ℕ → Bool) (i k : ℕ) → ((j : ℕ) → j < i + k → f j ≡ g j) → firstFrom f i k ≡ firstFrom g i k
 unfolding firstFrom
 first-cong f g i zero same = refl
 first-cong f g i (suc k) same =
@@ -49,22 +43,18 @@ module _ (f : ℕ → Bool) where
   pub first-within : (i k : ℕ) → firstFrom f i k ≤ i + k
   unfolding firstFrom
   first-within i zero = omega arith
-  first-within i (suc k) =
-      cases (f i) (λ c. rw c (omega arith)) (λ c. rw c (omega (arith, first-within (suc i) k)))
+  first-within i (suc k) = cases (f i) (λ c. rw c (omega arith)) (λ c. rw c (omega (arith, first-within (suc i) k)))
 
   -- the first that passes comes before every other
   pub first-least : (i k j : ℕ) → i ≤ j → j < i + k → f j ≡ true → firstFrom f i k ≤ j
   first-least i zero j a b e = absurd (omega arith)
   first-least i (suc k) j a b e =
-      cases
-      (f i)
+      cases (f i)
       (λ c. omega (arith, first-here f i k c))
-      (λ c.
-      cases
-      (eqb i j)
+      (λ c. cases (eqb i j)
       (λ s. true-and-false (rw (← eqb-true i j s) at e) c)
       (λ s.
-      let other : ¬ (i ≡ j) = eqb-false i j s in
+      let other = eqb-false i j s in
       omega (arith, first-later f i k c, first-least (suc i) k j (omega arith) (omega arith) e)))
 
   -- and it passes, if there is one
@@ -72,12 +62,9 @@ module _ (f : ℕ → Bool) where
   unfolding firstFrom
   first-passes i zero l = absurd (omega arith)
   first-passes i (suc k) l =
-      cases
-      (f i)
-      (λ c. rw (first-here f i k c) c)
-      (λ c.
-      rw (first-later f i k c)
-      (first-passes (suc i) k (omega (arith, first-later f i k c))))
+      cases (f i)
+      (λ c. rw first-here c)
+      (λ c. rw first-later (first-passes (suc i) k (omega (arith, first-later f i k c))))
 
   -- none before it passes
   pub none-before-first : (n k : ℕ) → k < firstFrom f 0 n → f k ≡ false
@@ -86,19 +73,13 @@ module _ (f : ℕ → Bool) where
       (λ e. omega (arith, first-within 0 n, first-least 0 n k (omega arith) (omega (arith, first-within 0 n)) e))
 
   -- a number below n that passes, with none before it, is the first; and n is where none passes
-  pub is-first :
-      (n p : ℕ) → p ≤ n → (p < n → f p ≡ true) → ((k : ℕ) → k < p → f k ≡ false) → p ≡ firstFrom f 0 n
+  pub is-first : (n p : ℕ) → p ≤ n → (p < n → f p ≡ true) → ((k : ℕ) → k < p → f k ≡ false) → p ≡ firstFrom f 0 n
   is-first n p within found none =
-      cases
-      (ltb (firstFrom f 0 n) p)
-      (λ c.
-      let l : firstFrom f 0 n < p = ltb-true (firstFrom f 0 n) p c in
-      true-and-false (first-passes 0 n (omega arith)) (none (firstFrom f 0 n) l))
-      (λ c. omega (arith, ltb-false (firstFrom f 0 n) p c, at-most))
-    where
-      at-most : firstFrom f 0 n ≤ p
-      at-most =
-          cases
-          (ltb p n)
-          (λ c. let l : p < n = ltb-true p n c in first-least 0 n p (omega arith) (omega arith) (found l))
-          (λ c. omega (arith, ltb-false p n c, first-within 0 n))
+      let first = firstFrom f 0 n in
+      cases (ltb first p)
+      (λ c. let l = ltb-true first p c in true-and-false (first-passes 0 n (omega arith)) (none first l))
+      (λ c. cases (ltb p first)
+      (λ d.
+      let l = ltb-true p first d in
+      true-and-false (found (omega (arith, first-within 0 n))) (none-before-first n p l))
+      (λ d. omega (arith, ltb-false first p c, ltb-false p first d)))

@@ -1,11 +1,6 @@
 -- The lowest pending place: it is pending and none before it is, and there is none exactly where the table is
 -- finished. Assumes nothing.
-use mathlib.Core.Path.{_≡_}
-use mathlib.Core.Bool.{true, false}
-use Prim.Native.Nat.{ℕ, _≤_, _<_}
-use native.Mathlib.Omega.{arith}
-use borrow.Author.Tests.{leb-true, leb-false}
-use Rattle.grammar.proofs.Basics.{cases, true-and-false}
+use Rattle.grammar.proofs.Basics.{_≡_, true, false, ℕ, _<_, _≤_, arith, leb-true, leb-false, cases, true-and-false}
 use Rattle.saturation.specs.Table.{tableSize, Statuses, isPendingAt}
 use Rattle.saturation.specs.Step.{lowest, isFinished}
 use Rattle.saturation.proofs.Tables.FirstFrom.{first-within, first-passes, first-cong, none-before-first}
@@ -24,8 +19,7 @@ module _ (v : Statuses) where
   before-lowest = none-before-first (isPendingAt v) tableSize
 
   pub finished-none-pending : isFinished v ≡ true → (p : ℕ) → p < tableSize → isPendingAt v p ≡ false
-  finished-none-pending e p h =
-      before-lowest p (omega (arith, leb-true tableSize (lowest v) e))
+  finished-none-pending e p h = before-lowest p (omega (arith, leb-true tableSize (lowest v) e))
 
   pub none-pending-finished : ((p : ℕ) → p < tableSize → isPendingAt v p ≡ false) → isFinished v ≡ true
   none-pending-finished none =

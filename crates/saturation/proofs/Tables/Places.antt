@@ -1,17 +1,16 @@
 -- A place and its three parts determine each other: division by 2048 and 32 takes apart what the sum put together.
 -- Assumes nothing.
-use mathlib.Core.Path.{_≡_}
-use Prim.Native.Nat.{ℕ, _<_}
-use native.Mathlib.Omega.{arith}
+use Rattle.grammar.proofs.Basics.{_≡_, ℕ, _<_, arith}
 use Rattle.saturation.specs.Table.{tableSize, reasonsSize, place, fromState, symbolAt, toState, reasonPlace}
 use Rattle.saturation.specs.Table.{reasonState, reasonVariable}
 
 -- a place in the table decodes to its parts
-pub from-state-place : (q X r : ℕ) → X < 64 → r < 32 → fromState (place q X r) ≡ q
-from-state-place q X r xl rl = omega arith
+module _ (q X r : ℕ) (xl : X < 64) (rl : r < 32) where
+  pub from-state-place : fromState (place q X r) ≡ q
+  from-state-place = omega arith
 
-pub symbol-at-place : (q X r : ℕ) → X < 64 → r < 32 → symbolAt (place q X r) ≡ X
-symbol-at-place q X r xl rl = omega arith
+  pub symbol-at-place : symbolAt (place q X r) ≡ X
+  symbol-at-place = omega arith
 
 pub to-state-place : (q X r : ℕ) → r < 32 → toState (place q X r) ≡ r
 to-state-place q X r rl = omega arith
@@ -33,34 +32,26 @@ pub place-below : (q X r : ℕ) → q < 32 → X < 64 → r < 32 → place q X r
 place-below q X r ql xl rl = omega arith
 
 -- different transitions have different places
-pub place-injective :
-    (q X r q' X' r' : ℕ) → X < 64 → r < 32 → X' < 64 → r' < 32 →
+pub place-injective : (q X r q' X' r' : ℕ) → X < 64 → r < 32 → X' < 64 → r' < 32 →
     place q X r ≡ place q' X' r' → (q ≡ q') × (X ≡ X') × (r ≡ r')
 place-injective q X r q' X' r' xl rl xl' rl' e = omega arith
 
 -- a property of the places below 65,536 is one of the transitions
-pub by-parts :
-    (P : ℕ → Type 0) → ((q X r : ℕ) → q < 32 → X < 64 → r < 32 → P (place q X r)) →
+pub by-parts : (P : ℕ → Type 0) → ((q X r : ℕ) → q < 32 → X < 64 → r < 32 → P (place q X r)) →
     (p : ℕ) → p < tableSize → P p
 by-parts P f p l =
-    rw (place-of-parts p l) at
-    (f (fromState p) (symbolAt p) (toState p) (from-state-below p l) (symbol-at-below p) (to-state-below p))
+    rw place-of-parts at (f (fromState p) (symbolAt p) (toState p) (omega arith) (omega arith) (omega arith))
 
 -- the same of the reasons, whose labels are variables
-pub reason-state-place : (q A r : ℕ) → A < 32 → r < 32 → reasonState (reasonPlace q A r) ≡ q
-reason-state-place q A r al rl = omega arith
+module _ (q A r : ℕ) (al : A < 32) (rl : r < 32) where
+  pub reason-state-place : reasonState (reasonPlace q A r) ≡ q
+  reason-state-place = omega arith
 
-pub reason-variable-place : (q A r : ℕ) → A < 32 → r < 32 → reasonVariable (reasonPlace q A r) ≡ A
-reason-variable-place q A r al rl = omega arith
+  pub reason-variable-place : reasonVariable (reasonPlace q A r) ≡ A
+  reason-variable-place = omega arith
 
 pub to-state-reason-place : (q A r : ℕ) → r < 32 → toState (reasonPlace q A r) ≡ r
 to-state-reason-place q A r rl = omega arith
-
-pub reason-state-below : (k : ℕ) → k < reasonsSize → reasonState k < 32
-reason-state-below k l = omega arith
-
-pub reason-variable-below : (k : ℕ) → reasonVariable k < 32
-reason-variable-below k = omega arith
 
 pub reason-place-of-parts : (k : ℕ) → k < reasonsSize → reasonPlace (reasonState k) (reasonVariable k) (toState k) ≡ k
 reason-place-of-parts k l = omega arith
@@ -68,7 +59,6 @@ reason-place-of-parts k l = omega arith
 pub reason-place-below : (q A r : ℕ) → q < 32 → A < 32 → r < 32 → reasonPlace q A r < reasonsSize
 reason-place-below q A r ql al rl = omega arith
 
-pub reason-place-injective :
-    (q A r q' A' r' : ℕ) → A < 32 → r < 32 → A' < 32 → r' < 32 →
+pub reason-place-injective : (q A r q' A' r' : ℕ) → A < 32 → r < 32 → A' < 32 → r' < 32 →
     reasonPlace q A r ≡ reasonPlace q' A' r' → (q ≡ q') × (A ≡ A') × (r ≡ r')
 reason-place-injective q A r q' A' r' al rl al' rl' e = omega arith

@@ -1,6 +1,5 @@
 -- Rules whose symbols are in range. Assumes nothing.
-use mathlib.Core.List.{List}
-use Prim.Native.Nat.{_<_}
+use Rattle.grammar.proofs.Basics.{List, _<_}
 use Rattle.grammar.specs.Rule.{Rule, empty, unit, pair, Among}
 use Rattle.grammar.proofs.Meetings.{PairsIn}
 use Rattle.job.specs.Theorems.InRange.{RuleInRange}
@@ -11,4 +10,4 @@ RulesInRange ρs = (ρ : Rule) → Among ρs ρ → RuleInRange ρ
 pub pairs-in-range : (ρs : List Rule) → RulesInRange ρs → PairsIn (λ X. X < 64) ρs
 pairs-in-range ρs range (empty A) member = tt
 pairs-in-range ρs range (unit A X) member = tt
-pairs-in-range ρs range (pair A X Y) member = let l = range (pair A X Y) member in (l .1, l .2)
+pairs-in-range ρs range (pair A X Y) member = let l = range _ member in (l .1, l .2)

@@ -1,6 +1,5 @@
 -- What is lent keeps its lengths. Assumes nothing.
-use mathlib.Core.Path.{_≡_, refl, _∙_}
-use lib.ListN.{length}
+use Rattle.grammar.proofs.Basics.{_≡_, refl, _∙_, length}
 use Rattle.saturation.specs.Table.{Lent}
 
 -- the same lengths

@@ -1,6 +1,5 @@
 -- A status is absent, pending or done, and one of these alone. Assumes nothing.
-use mathlib.Core.Path.{_≡_, refl}
-use mathlib.Core.Bool.{true, false, true≢false, false≢true}
+use Rattle.grammar.proofs.Basics.{_≡_, refl, true, false, false≢true, true≢false}
 use Rattle.saturation.specs.Table.{Status, saysAbsent, saysPending, saysDone}
 
 pub pending-not-done : (s : Status) → saysPending s ≡ true → saysDone s ≡ false

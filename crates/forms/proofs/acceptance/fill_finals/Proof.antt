@@ -1,9 +1,6 @@
 -- `acceptance::fill_finals` meets its contract. The loop's invariant: the first q flags of the row are filled.
 -- Assumes nothing.
-use mathlib.Core.Path.{_≡_, refl}
-use Prim.Native.Nat.{_-_, _≤_}
-use native.Mathlib.Omega.{arith}
-use lib.ListN.{getD}
+use Rattle.grammar.proofs.Basics.{_≡_, refl, _≤_, _-_, arith, getD}
 use Rattle.forms.specs.Inside.AcceptanceParts.{RowFilled}
 use Rattle.forms.proofs.Flags.{row-empty, row-more}
 use Rattle.forms.proofs.acceptance.fill_finals.Statement.{statement}
@@ -16,12 +13,12 @@ abbrev μ-loop : tie.MeasureT-loop
 μ-loop finals finish₀ end row q₀ finish q = 32 - q
 
 loop-holds : tie.Need-loop-holds Inv-loop μ-loop
-loop-holds c = (omega arith, row-empty _ _ _)
+loop-holds c = (omega arith, row-empty)
 
 loop-again : tie.Need-loop-again Inv-loop μ-loop
 loop-again c =
     let s = c .before .before .before in
-    (omega arith, row-more _ _ _ _ _ _ (s .pre .0) (omega arith) (s .pre .1) refl (c .before .before .loop .inv .1))
+    (omega arith, row-more (s .pre .0) (omega arith) (s .pre .1) refl (c .before .before .loop .inv .1))
 
 returns : tie.Need-returns Inv-loop μ-loop
 returns c =
@@ -29,17 +26,5 @@ returns c =
     rw end at (c .before .loop .inv .1)
 
 pub fill-finals-spec : {M : Type 1} → statement M
-fill-finals-spec =
-    tie.close
-    (tie.spec
-    Inv-loop
-    μ-loop
-    (λ c. omega arith)
-    loop-holds
-    (λ c. omega arith)
-    (λ c. omega arith)
-    (λ c. omega arith)
-    (λ c. omega arith)
-    (λ c. omega arith)
-    loop-again
-    returns)
+fill-finals-spec = tie.close (tie.spec Inv-loop μ-loop (omega arith) loop-holds (omega arith) (omega arith)
+    (omega arith) (omega arith) (omega arith) loop-again returns)

@@ -1,9 +1,6 @@
 -- `acceptance::fill_finish` meets its contract. The loop's invariant: the flags of the positions from i on are right.
 -- Assumes nothing.
-use mathlib.Core.Path.{_≡_, _∙_}
-use Prim.Native.Nat.{_-_, _≤_}
-use native.Mathlib.Omega.{arith}
-use lib.ListN.{length}
+use Rattle.grammar.proofs.Basics.{_≡_, _∙_, _≤_, _-_, arith, length}
 use Rattle.forms.specs.Inside.AcceptanceParts.{flagged}
 use Rattle.forms.proofs.Flags.{FlagsFrom, flags-of-end, flags-before}
 use Rattle.forms.proofs.acceptance.fill_finish.Statement.{statement}
@@ -27,8 +24,7 @@ loop-holds c =
     let end = c .fill-finals .ensures in (
       omega arith,
       end .size ∙ s .pre .2,
-      flags-of-end (s .args .table .now) (s .args .form .now)
-          (s .args .finals .now) end,
+      flags-of-end _ _ (s .args .finals .now) end,
     )
 
 cast-fill-row : tie.Need-cast-fill-row Inv-loop μ-loop
@@ -38,7 +34,7 @@ fill-row-requires : tie.Need-fill-row-requires Inv-loop μ-loop
 fill-row-requires c κs =
     let s = c .before .before .before .before .before .before .before .before in
     let h = c .before .before .before .loop in
-    (s .pre .0, s .pre .1 .symbols (h .i - 1) (omega arith), omega arith, h .inv .1)
+    (s .pre .0, s .pre .1 .symbols _ (omega arith), omega arith, h .inv .1)
 
 loop-again : tie.Need-loop-again Inv-loop μ-loop
 loop-again c =
@@ -52,17 +48,5 @@ returns c =
     λ i q l below. h .inv .2 .right i q (omega arith) l below
 
 pub fill-finish-spec : {M : Type 1} → statement M
-fill-finish-spec =
-    tie.close
-    (tie.spec
-    Inv-loop
-    μ-loop
-    fill-finals-requires
-    loop-holds
-    (λ c. omega arith)
-    (λ c. omega arith)
-    cast-fill-row
-    fill-row-requires
-    (λ c. omega arith)
-    loop-again
-    returns)
+fill-finish-spec = tie.close (tie.spec Inv-loop μ-loop fill-finals-requires loop-holds (omega arith) (omega arith)
+    cast-fill-row fill-row-requires (omega arith) loop-again returns)

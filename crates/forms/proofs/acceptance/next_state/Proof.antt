@@ -1,8 +1,6 @@
 -- `acceptance::next_state` meets its contract. The loop's invariant: the search from r on finds what the search from
 -- 0 on finds. Assumes nothing.
-use mathlib.Core.Path.{_≡_, refl, sym, _∙_}
-use Prim.Native.Nat.{_-_, _≤_}
-use native.Mathlib.Omega.{arith}
+use Rattle.grammar.proofs.Basics.{_≡_, refl, _∙_, sym, _≤_, _-_, arith}
 use Rattle.saturation.specs.Table.{doneIn, statuses}
 use Rattle.saturation.specs.Step.{firstFrom}
 use Rattle.forms.specs.Inside.AcceptanceParts.{goesOn}
@@ -43,21 +41,5 @@ returns-2 c =
     end ∙ sym (search-ends _ 32 (h .r) (omega arith)) ∙ h .inv .1
 
 pub next-state-spec : {M : Type 1} → statement M
-next-state-spec =
-    tie.close
-    (tie.spec
-    Inv-loop
-    μ-loop
-    (λ c. omega arith)
-    (λ c. omega arith)
-    (λ c. omega arith)
-    (λ c. omega arith)
-    loop-holds
-    (λ c. omega arith)
-    (λ c. omega arith)
-    (λ c κs. omega arith)
-    returns
-    (λ c. omega arith)
-    (λ c. omega arith)
-    loop-again
-    returns-2)
+next-state-spec = tie.close (tie.spec Inv-loop μ-loop (omega arith) (omega arith) (omega arith) (omega arith)
+    loop-holds (omega arith) (omega arith) (omega arith) returns (omega arith) (omega arith) loop-again returns-2)

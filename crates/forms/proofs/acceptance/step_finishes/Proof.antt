@@ -1,6 +1,5 @@
 -- `acceptance::step_finishes` meets its contract: both tests, one after the other. Assumes nothing.
-use mathlib.Core.Path.{sym, _∙_}
-use borrow.Author.Needs.{needs}
+use Rattle.grammar.proofs.Basics.{_∙_, sym, arith}
 use Rattle.forms.proofs.acceptance.step_finishes.Statement.{statement}
 use Rattle.forms.proofs.acceptance.step_finishes.Tie as tie
 
@@ -11,5 +10,4 @@ returns-2 : tie.Need-returns-2
 returns-2 c = rw (sym (c .before .is-done .ensures) ∙ c .if1 .left)
 
 pub step-finishes-spec : {M : Type 1} → statement M
-step-finishes-spec =
-    tie.close (tie.spec (λ c. search needs) (λ c κs. search needs) (λ c. search needs) returns returns-2)
+step-finishes-spec = tie.close (tie.spec (omega arith) (omega arith) (omega arith) returns returns-2)

@@ -1,7 +1,5 @@
 -- `forms::ask::ask_check` meets its contract: each return is a way through the checks. Assumes nothing.
-use mathlib.Core.Path.{sym, _∙_}
-use mathlib.Core.Bool.{true}
-use borrow.Author.Needs.{needs}
+use Rattle.grammar.proofs.Basics.{_∙_, sym, true, arith, needs}
 use Rattle.job.proofs.JobChecks.{at-full-limits}
 use Rattle.forms.proofs.FormChecks.{ask-short, ask-job, ask-form}
 use Rattle.forms.proofs.ask.ask_check.Statement.{statement}
@@ -24,6 +22,4 @@ returns-3 c =
     (c .before .before .before .check .ensures)) (c .before .if2 .left))
 
 pub ask-check-spec : {M : Type 1} → statement M
-ask-check-spec =
-    tie.close
-    (tie.spec returns (λ c κs. search needs) (λ c κs. search needs) returns-2 (λ c κs. search needs) returns-3)
+ask-check-spec = tie.close (tie.spec returns (omega arith) (omega arith) returns-2 (omega arith) returns-3)

@@ -1,13 +1,7 @@
 -- `forms::ask::form_check` meets its contract. The loop's invariant: the symbols passed fit. Assumes nothing.
-use mathlib.Core.Path.{_≡_, sym, _∙_}
-use mathlib.Core.Bool.{Bool, true, false, not}
-use Prim.Native.Nat.{ℕ, _≤_, _<_, _-_}
-use native.Mathlib.Omega.{arith}
+use Rattle.grammar.proofs.Basics.{_≡_, _∙_, sym, true, false, Bool, not, ℕ, _<_, _≤_, _-_, arith, ltb, length}
+use Rattle.grammar.proofs.Basics.{ltb-false, ltb-true, not-true, not-false, needs}
 use borrow.Author.Count.{below-more}
-use borrow.Author.Needs.{needs}
-use borrow.Author.Tests.{ltb-true, ltb-false, not-true, not-false}
-use lib.Dec.{ltb}
-use lib.ListN.{length}
 use Rattle.forms.proofs.FormChecks.{FitBefore, form-too-long, form-over, form-fits}
 use Rattle.forms.proofs.ask.form_check.Statement.{statement}
 use Rattle.forms.proofs.ask.form_check.Tie as tie
@@ -37,31 +31,18 @@ returns-2 c =
     let v = c .before in
     sym
     (form-over _ _ (search needs) (v .before .before .before .loop .inv .1) (search needs)
-    (over _ (v .is-symbol .result) (v .is-symbol .ensures) (c .if2 .taken)))
+    (over _ _ (v .is-symbol .ensures) (c .if2 .taken)))
 
 loop-again : tie.Need-loop-again Inv-loop μ-loop
 loop-again c =
     let v = c .before in (
       search needs,
-      below-more _ _ (v .before .before .before .loop .inv .1)
-          (fits _ (v .is-symbol .result) (v .is-symbol .ensures) (c .if2 .left)),
+      below-more _ _ (v .before .before .before .loop .inv .1) (fits _ _ (v .is-symbol .ensures) (c .if2 .left)),
     )
 
 returns-3 : tie.Need-returns-3 Inv-loop μ-loop
 returns-3 c = sym (form-fits _ (search needs) (λ k h. c .before .loop .inv .1 k (omega arith)))
 
 pub form-check-spec : {M : Type 1} → statement M
-form-check-spec =
-    tie.close
-    (tie.spec
-    Inv-loop
-    μ-loop
-    returns
-    loop-holds
-    (λ c. search needs)
-    (λ c κs. search needs)
-    returns-2
-    (λ c. search needs)
-    (λ c. search needs)
-    loop-again
-    returns-3)
+form-check-spec = tie.close (tie.spec Inv-loop μ-loop returns loop-holds (omega arith) (omega arith) returns-2
+    (omega arith) (omega arith) loop-again returns-3)

@@ -1,6 +1,6 @@
 -- `forms::explain::explain` meets its contract: a refusal passes on, and what passes the checks is started, run to
 -- the end and explained. Assumes nothing.
-use borrow.Author.Needs.{needs}
+use Rattle.grammar.proofs.Basics.{arith}
 use Rattle.forms.proofs.ExplainRuns.{refuses, may-start, may-run, may-explain, explains}
 use Rattle.forms.proofs.explain.explain.Statement.{statement}
 use Rattle.forms.proofs.explain.explain.Tie as tie
@@ -36,17 +36,6 @@ returns-2 c =
     (r .run .ensures .0) _ (f .explain-finished .ensures)
 
 pub explain-spec : {M : Type 1} → statement M
-explain-spec =
-    tie.close
-    (tie.spec
-    (λ c κs. search needs)
-    (λ c. search needs)
-    (λ c. search needs)
-    (λ c. refuses _ _ _ (c .before .before .explain-check .ensures) _ (c .if1 .taken))
-    begin-requires
-    run-requires
-    explain-finished-requires
-    (λ c. search needs)
-    (λ c. search needs)
-    (λ c. search needs)
-    returns-2)
+explain-spec = tie.close (tie.spec (omega arith) (omega arith) (omega arith)
+    (λ c. refuses _ _ _ (c .before .before .explain-check .ensures) _ (c .if1 .taken)) begin-requires run-requires
+    explain-finished-requires (omega arith) (omega arith) (omega arith) returns-2)

@@ -1,6 +1,5 @@
 -- `forms::explain::explain_check` meets its contract: each return is a way through the checks. Assumes nothing.
-use mathlib.Core.Path.{_∙_}
-use borrow.Author.Needs.{needs}
+use Rattle.grammar.proofs.Basics.{_∙_, arith}
 use Rattle.forms.proofs.ExplainChecks.{explain-machine, explain-form}
 use Rattle.forms.proofs.explain.explain_check.Statement.{statement}
 use Rattle.forms.proofs.explain.explain_check.Tie as tie
@@ -14,4 +13,4 @@ returns-2 c =
     (c .before .if1 .left)
 
 pub explain-check-spec : {M : Type 1} → statement M
-explain-check-spec = tie.close (tie.spec (λ c κs. search needs) returns (λ c κs. search needs) returns-2)
+explain-check-spec = tie.close (tie.spec (omega arith) returns (omega arith) returns-2)

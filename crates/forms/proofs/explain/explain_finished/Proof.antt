@@ -1,10 +1,9 @@
 -- `forms::explain::explain_finished` meets its contract: the flag of the whole form at the initial state says whether
 -- it is accepted, and the places filled then are its route. Assumes nothing.
-use mathlib.Core.Path.{refl}
-use borrow.Author.Needs.{needs}
+use Rattle.grammar.proofs.Basics.{refl, arith, needs}
 use denote.Ref.{now}
-use Rattle.forms.proofs.ExplainAnswers.{Filled, filled, state-below, not-accepted, may-fill, on-route}
-use Rattle.forms.proofs.ExplainAnswers.{explained}
+use Rattle.forms.proofs.AskAnswers.{Filled, filled}
+use Rattle.forms.proofs.ExplainAnswers.{state-below, not-accepted, may-fill, on-route, explained}
 use Rattle.forms.proofs.explain.explain_finished.Statement.{statement}
 use Rattle.forms.proofs.explain.explain_finished.Tie as tie
 
@@ -12,29 +11,14 @@ use Rattle.forms.proofs.explain.explain_finished.Tie as tie
 abbrev called : tie.After-field-of → tie.Start
 called n = n .before .before .before .before .before .before .before .before .before .before .before
 
-flags-filled :
-    (n : tie.After-field-of) →
-    Filled
-    (now (called n .args .job))
-    (now (called n .args .table))
-    (now (called n .args .form))
-    (n .before .fill-finish .last .1 .1 .1 .0)
-    (n .field-of .result)
+flags-filled : (n : tie.After-field-of) →
+    Filled (now (called n .args .job)) (now (called n .args .table)) (now (called n .args .form))
+    (n .before .fill-finish .last .1 .1 .1 .0) (n .field-of .result)
 flags-filled n =
     let e = n .before in
     let s = e .before .before .before .before in
-    filled
-    _
-    _
-    (now (called n .args .reasons))
-    _
-    _
-    (s .final-states .result)
-    _
-    (called n .pre .0)
-    (e .fill-finish .ensures)
-    (s .final-states .ensures)
-    (n .field-of .ensures)
+    filled _ _ _ (s .final-states .result) (called n .pre .0 .job-accepted) (s .final-states .ensures)
+    (e .fill-finish .ensures) (n .field-of .ensures)
 
 returns : tie.Need-returns
 returns c = not-accepted (flags-filled (c .before)) _ _ (c .if1 .taken)
@@ -61,18 +45,6 @@ returns-2 c =
     explained (flags-filled (e .before)) (e .if1 .left) _ _ _ (l .list-accepted .ensures)
 
 pub explain-finished-spec : {M : Type 1} → statement M
-explain-finished-spec =
-    tie.close
-    (tie.spec
-    (λ c κs. search needs)
-    (λ c κs. search needs)
-    (λ c κs. search needs)
-    (λ c. search needs)
-    (λ c. search needs)
-    (λ c. search needs)
-    returns
-    fill-route-requires
-    list-accepted-requires
-    (λ c. search needs)
-    (λ c. search needs)
+explain-finished-spec = tie.close (tie.spec (omega arith) (λ c κs. search needs) (omega arith) (omega arith)
+    (omega arith) (omega arith) returns fill-route-requires list-accepted-requires (omega arith) (omega arith)
     returns-2)

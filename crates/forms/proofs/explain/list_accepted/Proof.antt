@@ -1,13 +1,7 @@
 -- `forms::explain::list_accepted` meets its contract: the pass that counts tells whether the records fit, and the
 -- pass that writes starts from the same table and listing. Assumes nothing.
-use mathlib.Core.Path.{refl}
-use mathlib.Core.Bool.{false}
-use native.Mathlib.Omega.{arith}
-use borrow.Author.Needs.{needs}
+use Rattle.grammar.proofs.Basics.{refl, false, _≤_, _-_, arith, length, take, drop, true-and-false}
 use denote.Ref.{now}
-use lib.ListN.{length, take, drop}
-use Prim.Native.Nat.{_-_, _≤_}
-use Rattle.grammar.proofs.Basics.{true-and-false}
 use Rattle.job.proofs.Keys.{keys-long}
 use Rattle.forms.proofs.Explaining.{Ready, ready, places-enough, may-pass, needed-few, refuses-13, may-write}
 use Rattle.forms.proofs.Explaining.{writes}
@@ -15,23 +9,17 @@ use Rattle.forms.proofs.explain.list_accepted.Statement.{statement}
 use Rattle.forms.proofs.explain.list_accepted.Tie as tie
 
 sorted-rules-requires : tie.Need-sorted-rules-requires
-sorted-rules-requires c κs =
-    c .before .before .before .before .before .before .pre .0 .0 .job-accepted .few-rules
+sorted-rules-requires c κs = c .before .before .before .before .before .before .pre .0 .0 .job-accepted .few-rules
 
 -- what the function is called with, and what the passes rest on once the keys are sorted
 abbrev called : tie.After-sorted-rules → tie.Start
 called s = s .before .before .before .before .before .before .before
 
-passes-ready :
-    (s : tie.After-sorted-rules) →
-    Ready
-    (now (called s .args .job))
-    (now (called s .args .table))
-    (now (called s .args .reasons))
-    (now (called s .args .form))
-    (now (called s .args .places))
+passes-ready : (s : tie.After-sorted-rules) →
+    Ready (now (called s .args .job)) (now (called s .args .table)) (now (called s .args .reasons))
+    (now (called s .args .form)) (now (called s .args .places))
     (take (s .sorted-rules .result - 0) (drop 0 (s .sorted-rules .last .1 .0)))
-passes-ready s = ready _ _ _ _ _ _ _ (called s .pre) (s .sorted-rules .ensures)
+passes-ready s = ready _ (called s .pre) (s .sorted-rules .ensures)
 
 list-all-requires : tie.Need-list-all-requires
 list-all-requires c κs =
@@ -44,8 +32,7 @@ mul-if1 c =
     record {
       fits = omega (
         arith,
-        needed-few (passes-ready (l .before .before .before .before .before)) _
-            (l .list-all .ensures),
+        needed-few (passes-ready (l .before .before .before .before .before)) _ (l .list-all .ensures),
       );
     }
 
@@ -78,20 +65,6 @@ few : (s : tie.After-sorted-rules) → s .sorted-rules .result ≤ length (s .so
 few s = keys-long (called s .pre .0 .0 .job-accepted) _ _ (s .sorted-rules .ensures .0) (s .sorted-rules .ensures .1)
 
 pub list-accepted-spec : {M : Type 1} → statement M
-list-accepted-spec =
-    tie.close
-    (tie.spec
-    sorted-rules-requires
-    (λ c. search needs)
-    (λ c. search needs)
-    (λ c. few (c .before))
-    list-all-requires
-    mul-if1
-    (λ c. search needs)
-    (λ c. search needs)
-    returns
-    (λ c κs. search needs)
-    list-all-requires-2
-    (λ c. search needs)
-    (λ c. search needs)
-    returns-2)
+list-accepted-spec = tie.close (tie.spec sorted-rules-requires (omega arith) (omega arith) (λ c. few (c .before))
+    list-all-requires mul-if1 (omega arith) (omega arith) returns (omega arith) list-all-requires-2 (omega arith)
+    (omega arith) returns-2)

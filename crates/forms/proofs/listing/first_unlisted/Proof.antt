@@ -1,6 +1,5 @@
 -- Each return is a clause of the definition, by the tests that led there. Assumes nothing.
-use borrow.Author.Needs.{needs}
-use borrow.Author.Tests.{eq-eqb, ne-eqb}
+use Rattle.grammar.proofs.Basics.{arith, eq-eqb, ne-eqb}
 use Rattle.forms.specs.Inside.ListingParts.{firstUnlisted}
 use Rattle.forms.proofs.listing.first_unlisted.Statement.{statement}
 use Rattle.forms.proofs.listing.first_unlisted.Tie as tie
@@ -18,5 +17,4 @@ unfolding firstUnlisted
 returns-3 c = rw (eq-eqb _ 3 (c .before .before .if1 .left), eq-eqb _ 3 (c .if2 .left))
 
 pub first-unlisted-spec : {M : Type 1} → statement M
-first-unlisted-spec =
-    tie.close (tie.spec (λ c. search needs) returns (λ c. search needs) returns-2 returns-3)
+first-unlisted-spec = tie.close (tie.spec (omega arith) returns (omega arith) returns-2 returns-3)

@@ -1,7 +1,5 @@
 -- One store, and the record behind those written. Assumes nothing.
-use native.Mathlib.Omega.{arith}
-use borrow.Author.Needs.{needs}
-use Rattle.forms.specs.Inside.ListingParts.{rulesOf}
+use Rattle.grammar.proofs.Basics.{arith, needs}
 use Rattle.forms.proofs.Passes.{listed-written, listed-counted}
 use Rattle.forms.proofs.listing.list_one.Statement.{statement}
 use Rattle.forms.proofs.listing.list_one.Tie as tie
@@ -19,27 +17,13 @@ returns c =
     let w = c .before .before in
     let t = w .before .before in
     let a = called (t .before) .args in
-    rw (t .if1 .taken)
-    (listed-written (rulesOf (a .keys .now)) (a .reasons .now) (a .table .now) (a .listing .now)
-    (w .write-record .last .1 .1 .1 .0) (a .count) (a .p) (w .write-record .ensures))
+    rw (t .if1 .taken) (listed-written _ _ (a .table .now) _ (a .count) (a .p) (w .write-record .ensures))
 
 returns-2 : tie.Need-returns-2
 returns-2 c =
     let a = called (c .before) .args in
-    rw (c .if1 .left)
-    (listed-counted (rulesOf (a .keys .now)) (a .reasons .now) (a .table .now) (a .listing .now) (a .count) (a .p))
+    rw (c .if1 .left) (listed-counted _ _ (a .table .now) _ (a .count) (a .p))
 
 pub list-one-spec : {M : Type 1} → statement M
-list-one-spec =
-    tie.close
-    (tie.spec
-    (λ c. search needs)
-    (λ c. search needs)
-    write-record-requires
-    (λ c. search needs)
-    (λ c. search needs)
-    (λ c. search needs)
-    returns
-    (λ c. search needs)
-    (λ c. search needs)
-    returns-2)
+list-one-spec = tie.close (tie.spec (omega arith) (omega arith) write-record-requires (omega arith) (λ c. search needs)
+    (omega arith) returns (omega arith) (λ c. search needs) returns-2)

@@ -1,8 +1,5 @@
 -- The symbol of the place decides, as in the definition. Assumes nothing.
-use mathlib.Core.Path.{sym, _∙_}
-use native.Mathlib.Omega.{arith}
-use borrow.Author.Needs.{needs}
-use borrow.Author.Tests.{leb-false}
+use Rattle.grammar.proofs.Basics.{_∙_, sym, arith, leb-false}
 use Rattle.saturation.specs.Table.{symbolAt}
 use Rattle.forms.proofs.listing.reason_at.Statement.{statement}
 use Rattle.forms.proofs.listing.reason_at.Tie as tie
@@ -21,15 +18,5 @@ returns-2 : tie.Need-returns-2
 returns-2 c = rw (sym (c .before .before .terminal-at .ensures) ∙ c .before .if1 .left)
 
 pub reason-at-spec : {M : Type 1} → statement M
-reason-at-spec =
-    tie.close
-    (tie.spec
-    (λ c κs. search needs)
-    returns
-    (λ c. search needs)
-    (λ c. search needs)
-    (λ c. search needs)
-    (λ c. search needs)
-    (λ c. search needs)
-    shared-slice-read-result
-    returns-2)
+reason-at-spec = tie.close (tie.spec (omega arith) returns (omega arith) (omega arith) (omega arith) (omega arith)
+    (omega arith) shared-slice-read-result returns-2)

@@ -1,8 +1,5 @@
 -- A given reason has no rule; any other says the rule at its rank. Assumes nothing.
-use mathlib.Core.Path.{sym, _∙_, subst}
-use Prim.Native.Nat.{_-_, _/_, _≤_, _<_}
-use lib.ListN.{length}
-use borrow.Author.Needs.{needs}
+use Rattle.grammar.proofs.Basics.{_∙_, sym, subst, _<_, _≤_, _-_, _/_, arith, length}
 use Rattle.forms.specs.Grounded.{ReasonFits}
 use Rattle.forms.specs.Inside.ListingParts.{rulesOf}
 use Rattle.forms.proofs.ReasonLaws.{bytes-given, bytes-of-key, key-below}
@@ -13,13 +10,12 @@ abbrev called : tie.After-reason-at → tie.Start
 called r = r .before .before .before
 
 -- the rank of a reason that is not given
-below :
-    (c : tie.Else1) →
+below : (c : tie.Else1) →
     (1 ≤ c .before .reason-at .result)
     × ((c .before .reason-at .result - 1) / 32 < length (called (c .before) .args .keys .now))
 below c =
     let r = c .before in
-    key-below (called r .args .keys .now) (r .reason-at .result)
+    key-below (called r .args .keys .now) _
     (subst (ReasonFits (rulesOf (called r .args .keys .now))) (sym (r .reason-at .ensures)) (called r .pre .fits))
     (c .if1 .left)
 
@@ -32,19 +28,8 @@ returns-2 c =
     let r = e .before in
     let s = called r in
     c .rule-bytes .ensures
-    ∙ bytes-of-key (s .args .keys .now) (s .args .reasons .now) (s .args .p) (r .reason-at .result)
-    (r .reason-at .ensures) (s .pre .fits) (e .if1 .left)
+    ∙ bytes-of-key (s .args .keys .now) _ _ _ (r .reason-at .ensures) (s .pre .fits) (e .if1 .left)
 
 pub reason-bytes-spec : {M : Type 1} → statement M
-reason-bytes-spec =
-    tie.close
-    (tie.spec
-    (λ c κs. search needs)
-    returns
-    (λ c. below c .0)
-    (λ c. search needs)
-    (λ c. search needs)
-    (λ c. below (c .before) .1)
-    (λ c. search needs)
-    (λ c κs. search needs)
-    returns-2)
+reason-bytes-spec = tie.close (tie.spec (omega arith) returns (λ c. below c .0) (omega arith) (omega arith)
+    (λ c. below (c .before) .1) (omega arith) (omega arith) returns-2)

@@ -1,7 +1,5 @@
 -- The kind decides, as in the definition of a rule by its key. Assumes nothing.
-use mathlib.Core.Path.{_≡_, sym, _∙_, ap}
-use borrow.Author.Tests.{eq-eqb, ne-eqb}
-use borrow.Author.Needs.{needs}
+use Rattle.grammar.proofs.Basics.{_≡_, _∙_, sym, ap, arith, eq-eqb, ne-eqb}
 use Rattle.job.specs.Format.{byteE, byteU}
 use Rattle.job.specs.Inside.Keys.{keyKind, ruleOfKey}
 use Rattle.forms.proofs.listing.rule_bytes.Statement.{statement}
@@ -38,4 +36,4 @@ returns-3 c =
     )
 
 pub rule-bytes-spec : {M : Type 1} → statement M
-rule-bytes-spec = tie.close (tie.spec (λ c κs. search needs) returns returns-2 returns-3)
+rule-bytes-spec = tie.close (tie.spec (omega arith) returns returns-2 returns-3)

@@ -1,14 +1,8 @@
 -- The invariant: the marks before i are gone, and the rest is as it was. Assumes nothing.
-use Prim.Native.Nat.{_-_, _≤_, _<_}
-use mathlib.Core.Path.{_≡_, _∙_, ap}
-use mathlib.Core.Bool.{cond}
-use lib.Dec.{eqb}
-use lib.ListN.{length, getD, set}
-use native.Mathlib.Omega.{arith}
+use Rattle.grammar.proofs.Basics.{_≡_, _∙_, ap, _<_, _≤_, _-_, arith, length}
 use Rattle.saturation.specs.Table.{tableSize, each}
 use Rattle.saturation.proofs.Tables.Each.{length-each}
 use Rattle.forms.proofs.Unmarking.{unmarkedTo, unmarked-none, unmarked-next}
-use borrow.Author.Needs.{needs}
 use Rattle.forms.proofs.listing.unmark.Statement.{statement}
 use Rattle.forms.proofs.listing.unmark.Tie as tie
 
@@ -19,29 +13,20 @@ abbrev μ-loop : tie.MeasureT-loop
 μ-loop table₀ i₀ table i = tableSize - i
 
 loop-holds : tie.Need-loop-holds Inv-loop μ-loop
-loop-holds c = (omega arith, unmarked-none (c .before .args .table .now))
+loop-holds c = (omega arith, unmarked-none _)
 
 same-size : (l : tie.At-loop Inv-loop μ-loop) → length (l .loop .table) ≡ length (l .before .before .args .table .now)
-same-size l =
-    ap length (l .loop .inv .1) ∙ length-each (unmarkedTo (l .loop .i)) 0 (l .before .before .args .table .now)
+same-size l = ap length (l .loop .inv .1) ∙ length-each _ 0 _
 
-long :
-    (c : tie.After-slice-known2 Inv-loop μ-loop) →
+long : (c : tie.After-slice-known2 Inv-loop μ-loop) →
     c .before .before .loop .i < length (c .before .before .loop .table)
-long c =
-    let l = c .before .before in omega (arith, same-size l, l .before .before .pre, c .before .loop-test .taken)
+long c = let l = c .before .before in omega (arith, same-size l, l .before .before .pre, c .before .loop-test .taken)
 
 loop-again : tie.Need-loop-again Inv-loop μ-loop
 loop-again c =
     let l = c .before .before .before in
     let s = l .before .before in
-    let t = s .args .table .now in
-    let i = l .loop .i in (
-      omega arith,
-      ap (λ z. set z i (c .without-mark .result)) (l .loop .inv .1)
-          ∙ unmarked-next t i (c .without-mark .result) (omega (arith, s .pre))
-          (c .without-mark .ensures ∙ ap (λ z. cond (eqb (getD z i 0) 3) 2 (getD z i 0)) (l .loop .inv .1)),
-    )
+    (omega arith, unmarked-next _ (omega (arith, s .pre)) (l .loop .inv .1) (c .without-mark .ensures))
 
 returns : tie.Need-returns Inv-loop μ-loop
 returns c =
@@ -49,17 +34,5 @@ returns c =
     l .loop .inv .1 ∙ ap (λ n. each (unmarkedTo n) 0 (l .before .before .args .table .now)) (omega arith)
 
 pub unmark-spec : {M : Type 1} → statement M
-unmark-spec =
-    tie.close
-    (tie.spec
-    Inv-loop
-    μ-loop
-    loop-holds
-    (λ c. long c)
-    (λ c κs. search needs)
-    (λ c. long (c .before))
-    (λ c. omega arith)
-    (λ c. omega arith)
-    loop-again
-    (λ c. same-size (c .before))
-    returns)
+unmark-spec = tie.close (tie.spec Inv-loop μ-loop loop-holds (λ c. long c) (omega arith) (λ c. long (c .before))
+    (omega arith) (omega arith) loop-again (λ c. same-size (c .before)) returns)

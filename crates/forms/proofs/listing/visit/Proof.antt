@@ -1,15 +1,11 @@
 -- The invariant of the loop: the walk is underway to the whole visit; what is left of the table and the path falls.
 -- Assumes nothing.
-use mathlib.Core.Path.{sym, _∙_}
-use Prim.Native.Nat.{_≤_}
-use native.Mathlib.Omega.{arith}
-use borrow.Author.Tests.{eq-eqb, ne-eqb, leb-true, leb-false}
-use borrow.Author.Needs.{needs}
+use Rattle.grammar.proofs.Basics.{_∙_, sym, _≤_, arith, eq-eqb, ne-eqb, leb-true, leb-false}
 use Rattle.saturation.specs.Table.{symbolAt}
-use Rattle.forms.specs.Inside.ListingParts.{rulesOf, passOf, Walking, walkingOf}
-use Rattle.forms.proofs.Walks.{leftOf}
-use Rattle.forms.proofs.WalkInvariant.{Underway, already-listed, terminal-may, terminal-shown, sets-out}
-use Rattle.forms.proofs.WalkInvariant.{may-move, stays-underway, left-falls, arrives, table-kept, out-kept}
+use Rattle.forms.specs.Inside.ListingParts.{rulesOf, passOf, walkingOf}
+use Rattle.forms.proofs.Walks.{table-kept, out-kept}
+use Rattle.forms.proofs.WalkMoves.{Underway, leftOf, arrives, may-move, moves}
+use Rattle.forms.proofs.WalkStarts.{already-listed, terminal-may, terminal-shown, sets-out}
 use Rattle.forms.proofs.listing.visit.Statement.{statement}
 use Rattle.forms.proofs.listing.visit.Tie as tie
 
@@ -24,12 +20,6 @@ abbrev μ-loop : tie.MeasureT-loop
 -- what the function is called with
 abbrev called : tie.Else1 Inv-loop μ-loop → tie.Start Inv-loop μ-loop
 called e = e .before .before .before .before .before .before
-
--- where the walk stands after a step
-abbrev then : tie.After-walk-step Inv-loop μ-loop → Walking
-then w =
-    walkingOf (w .walk-step .last .0) (w .walk-step .result .count) (w .walk-step .last .1 .1 .1 .1 .0)
-    (w .walk-step .last .1 .1 .1 .0) (w .walk-step .result .depth)
 
 slice-read-if1 : tie.Need-slice-read-if1 Inv-loop μ-loop
 slice-read-if1 c =
@@ -68,43 +58,25 @@ loop-holds c =
 walk-step-requires : tie.Need-walk-step-requires Inv-loop μ-loop
 walk-step-requires c κs =
     let t = c .before .before .before in
-    let l = t .before .before in
-    may-move (l .loop .inv) (t .if3 .taken) (called (l .before .before .before) .pre)
+    may-move (t .before .before .loop .inv) (t .if3 .taken)
 
 loop-less : tie.Need-loop-less Inv-loop μ-loop
 loop-less c =
     let w = c .before .before .before .before in
     let t = w .before .before .before .before in
-    left-falls (t .before .before .loop .inv) (t .if3 .taken) (then w) (w .walk-step .ensures)
+    moves (t .before .before .loop .inv) (t .if3 .taken) (w .walk-step .ensures) .1
 
 loop-again : tie.Need-loop-again Inv-loop μ-loop
 loop-again c =
     let w = c .before .before .before .before in
     let t = w .before .before .before .before in
-    stays-underway (t .before .before .loop .inv) (t .if3 .taken) (then w) (w .walk-step .ensures)
+    moves (t .before .before .loop .inv) (t .if3 .taken) (w .walk-step .ensures) .0
 
 returns-3 : tie.Need-returns-3 Inv-loop μ-loop
-returns-3 c = let u = c .before .before .loop .inv in (arrives u (omega arith), u .way .path-full)
+returns-3 c = let u = c .before .before .loop .inv in (arrives u (omega arith), u .path-full)
 
 pub visit-spec : {M : Type 1} → statement M
-visit-spec =
-    tie.close
-    (tie.spec
-    Inv-loop
-    μ-loop
-    slice-read-if1
-    returns
-    (λ c κs. search needs)
-    list-one-requires
-    (λ c. search needs)
-    (λ c. search needs)
-    returns-2
-    cast-path
-    (λ c. search needs)
-    loop-holds
-    walk-step-requires
-    loop-less
-    loop-again
-    (λ c. table-kept (c .before .before .loop .inv))
-    (λ c. out-kept (c .before .before .loop .inv))
+visit-spec = tie.close (tie.spec Inv-loop μ-loop slice-read-if1 returns (omega arith) list-one-requires (omega arith)
+    (omega arith) returns-2 cast-path (omega arith) loop-holds walk-step-requires loop-less loop-again
+    (λ c. table-kept (c .before .before .loop .inv .way)) (λ c. out-kept (c .before .before .loop .inv .way))
     returns-3)

@@ -1,5 +1,5 @@
 -- By the test on the byte. Assumes nothing.
-use borrow.Author.Tests.{eq-eqb, ne-eqb}
+use Rattle.grammar.proofs.Basics.{eq-eqb, ne-eqb}
 use Rattle.forms.proofs.listing.without_mark.Statement.{statement}
 use Rattle.forms.proofs.listing.without_mark.Tie as tie
 

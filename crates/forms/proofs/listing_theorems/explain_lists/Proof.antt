@@ -6,6 +6,5 @@ use Rattle.forms.proofs.listing_theorems.explain_lists.Tie as tie
 
 pub explain-lists-spec : {M : Type 1} → statement M
 unfolding ExplainLists
-explain-lists-spec =
-    tie.close
-    (tie.spec (λ c. λ job m form out unrefused accepts. explain-lists job m form unrefused accepts out))
+explain-lists-spec = tie.close (tie.spec
+    (λ c. λ job m form out unrefused accepts. explain-lists job m form unrefused accepts out))

@@ -6,4 +6,4 @@ use Rattle.forms.proofs.listing_theorems.listing_is_right.Tie as tie
 
 pub listing-is-right-spec : {M : Type 1} → statement M
 unfolding ListingIsRight
-listing-is-right-spec = tie.close (tie.spec (λ c. listing-is-right))
+listing-is-right-spec = tie.close (tie.spec (λ c ρs reasons t ps. listing-is-right))

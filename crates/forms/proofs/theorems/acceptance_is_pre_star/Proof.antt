@@ -7,7 +7,5 @@ use Rattle.forms.proofs.theorems.acceptance_is_pre_star.Tie as tie
 
 pub acceptance-is-pre-star-spec : {M : Type 1} → statement M
 unfolding AcceptanceIsPreStar
-acceptance-is-pre-star-spec =
-    tie.close
-    (tie.spec
+acceptance-is-pre-star-spec = tie.close (tie.spec
     (λ c. λ J done w few below start fit smallest. accepted-is-derived J done few below start smallest w fit))

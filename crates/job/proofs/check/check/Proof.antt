@@ -1,11 +1,6 @@
 -- `check::check`: the two tests of the length come before the walk, as in the definition. Assumes nothing.
-use mathlib.Core.Path.{_≡_}
-use mathlib.Core.Bool.{Bool}
-use mathlib.Core.List.{List, []}
-use Prim.Native.Nat.{ℕ, _/_, _%_, _≤_, _<_}
-use borrow.Author.Needs.{needs}
-use borrow.Author.Tests.{lt-ltb, le-ltb, eq-eqb, ne-eqb}
-use lib.ListN.{length}
+use Rattle.grammar.proofs.Basics.{_≡_, Bool, List, [], ℕ, _<_, _≤_, _/_, _%_, length, eq-eqb, ne-eqb, lt-ltb, le-ltb}
+use Rattle.grammar.proofs.Basics.{needs}
 use Rattle.job.specs.declared.Limits.{Limits}
 use Rattle.job.specs.declared.Checked.{Checked}
 use Rattle.job.specs.Format.{recordsOf}
@@ -16,18 +11,18 @@ use Rattle.job.proofs.check.check.Tie as tie
 module _ (limits : Limits) (needed : Bool) (job : List ℕ) where
   too-long : 16384 < length job → refused 2 (length job) ≡ checkOf limits needed job
   unfolding checkOf
-  too-long h = rw (lt-ltb 16384 (length job) h)
+  too-long h = rw (lt-ltb _ _ h)
 
   no-whole-records : length job ≤ 16384 → (length job % 4 ≡ 0 → ⊥)
       → refused 1 (length job / 4) ≡ checkOf limits needed job
   unfolding checkOf
-  no-whole-records h n = rw (le-ltb 16384 (length job) h, ne-eqb (length job % 4) 0 n)
+  no-whole-records h n = rw (le-ltb _ _ h, ne-eqb _ _ n)
 
   by-the-walk : (r : Checked) → length job ≤ 16384 → length job % 4 ≡ 0
       → r ≡ orElse (firstFault limits [] (recordsOf job)) (missing needed (recordsOf job))
       → r ≡ checkOf limits needed job
   unfolding checkOf
-  by-the-walk r h e w = rw (le-ltb 16384 (length job) h, eq-eqb (length job % 4) 0 e) w
+  by-the-walk r h e w = rw (le-ltb _ _ h, eq-eqb _ _ e) w
 
 ruleset ways = (too-long, no-whole-records, by-the-walk)
 

@@ -1,19 +1,13 @@
 -- `check::check_records`. The walk's invariant: the records before i are counted, and the first refusal is that of the
 -- records from i on. The search's: none of the first j records is record i. Each way on and out is a law of `Walk`.
 -- Assumes nothing.
-use mathlib.Core.Path.{_≡_, sym, _∙_}
-use mathlib.Core.Bool.{false}
-use mathlib.Core.Logic.{⊎-elim}
-use Prim.Native.Nat.{_-_, _≤_, _<_}
-use native.Mathlib.Numerals.{add-one}
-use native.Mathlib.Omega.{arith}
-use lib.ListN.{length, take}
-use borrow.Author.Needs.{needs}
+use Rattle.grammar.proofs.Basics.{_≡_, _∙_, sym, ⊎-elim, false, _<_, _≤_, _-_, add-one, arith, length, take, ne-eqb}
+use Rattle.grammar.proofs.Basics.{needs}
 use Rattle.job.specs.Format.{recordsOf, has}
 use Rattle.job.proofs.Records.{records-counted}
-use Rattle.job.proofs.Earlier.{none-so-far, has-at}
-use Rattle.job.proofs.Walk.{Walked, Read, walked-none, walked-on, walked-all, tally-within, by-form, by-repeat}
-use Rattle.job.proofs.Walk.{by-order}
+use Rattle.job.proofs.Earlier.{none-at-first, none-so-far, has-at}
+use Rattle.job.proofs.Walk.{Walked, Read, walked-none, walked-on, walked-all, tally-within, fault-here}
+use Rattle.job.proofs.Walk.{refused-here}
 use Rattle.job.proofs.check.check_records.Statement.{statement}
 use Rattle.job.proofs.check.check_records.Tie as tie
 
@@ -54,10 +48,6 @@ none-before c =
     let e : c .before .before .before .before .before .before .walk .i ≡ d .loop .j = omega arith in
     rw e (d .loop .inv .1)
 
-loop-holds : tie.Need-loop-holds Inv-loop μ-loop Inv-walk μ-walk
-unfolding has
-loop-holds c = search needs
-
 loop-again : tie.Need-loop-again Inv-loop μ-loop Inv-walk μ-walk
 loop-again c =
     let d = c .before .before .before in
@@ -72,8 +62,10 @@ loop-again c =
 returns-2 : tie.Need-returns-2 Inv-loop μ-loop Inv-walk μ-walk
 returns-2 c =
     let d = c .before .before .before in
-    by-order (read (d .before .before .before)) _ (d .before .before .if1 .left) (none-before d)
-    (c .before .before .order-fault .ensures) (c .before .if3 .taken) (c .refuse2 .ensures)
+    let a = read (d .before .before .before) in
+    refused-here a _
+    (fault-here a ∙ rw (d .before .before .if1 .left, none-before d, ← c .before .before .order-fault .ensures))
+    (c .before .if3 .taken) (c .refuse2 .ensures)
 
 count-in-requires : tie.Need-count-in-requires Inv-loop μ-loop Inv-walk μ-walk
 count-in-requires c κs =
@@ -82,12 +74,19 @@ count-in-requires c κs =
 
 walk-again : tie.Need-walk-again Inv-loop μ-loop Inv-walk μ-walk
 walk-again c =
-    let d = c .before .before .before in (
+    let d = c .before .before .before in
+    let a = read (d .before .before .before) in (
       omega arith,
-      c .before .before .before .before .before .before .before .before .before .walk .inv .1,
-      walked-on (read (d .before .before .before)) (d .before .before .if1 .left) (none-before d)
-          (c .before .before .order-fault .ensures)
-          (c .before .if3 .left) (c .count-in .ensures),
+      d .before .before .before .before .before .before .walk .inv .1,
+      walked-on a
+          (fault-here a
+          ∙ rw (
+            d .before .before .if1 .left,
+            none-before d,
+            ← c .before .before .order-fault .ensures,
+            c .before .if3 .left,
+          ))
+          (c .count-in .ensures),
     )
 
 returns-3 : tie.Need-returns-3 Inv-loop μ-loop Inv-walk μ-walk
@@ -101,16 +100,13 @@ returns-3 c =
     let rs = recordsOf (b .before .before .args .job .now) in
     let l : j < length rs = omega arith in
     let again : c .before .record-at2 .result ≡ w .1 .result = c .before .record-at2 .ensures ∙ sym (w .1 .ensures) in
-    by-repeat
-    (read
+    let a = read
     (record {
       before = record { before = record { before = b; walk-test = w .0 }; record-at = w .1 };
       form-fault = w .2;
-    }))
-    _
-    (w .3 .left)
-    (has-at (w .1 .result) rs (b .walk .i) j (w .5 .taken) l (sym (w .6 .ensures) ∙ w .7 .taken))
-    (rw again at (c .refuse3 .ensures)))
+    }) in
+    let met = has-at (w .1 .result) rs (b .walk .i) j (w .5 .taken) l (sym (w .6 .ensures) ∙ w .7 .taken) in
+    refused-here a _ (fault-here a ∙ rw (w .3 .left, met)) (omega arith) (rw again at (c .refuse3 .ensures)))
     (e .walk-test .came)
 
 returns-4 : tie.Need-returns-4 Inv-loop μ-loop Inv-walk μ-walk
@@ -122,30 +118,23 @@ returns-4 c =
 pub check-records-spec : {M : Type 1} → statement M
 check-records-spec =
     tie.close
-    (tie.spec
-    Inv-loop
-    μ-loop
-    Inv-walk
-    μ-walk
-    (λ c. (omega arith, sym (records-counted (c .before .args .job .now)), walked-none _ _))
+    (tie.spec Inv-loop μ-loop Inv-walk μ-walk
+    (λ c. (omega arith, sym (records-counted _), walked-none _ _))
     (λ c κs. omega arith)
     (λ c κs. search needs)
     (λ c κs. search needs)
-    (λ c. by-form (read (c .before .before)) _ (c .before .if1 .taken) (c .refuse .ensures))
-    loop-holds
+    (λ c.
+    let a = read (c .before .before) in
+    let z = c .before .if1 .taken in
+    refused-here a _ (fault-here a ∙ rw (ne-eqb _ 0 z)) z (c .refuse .ensures))
+    (λ c. (omega arith, none-at-first _))
     (λ c κs. omega arith)
     (λ c. omega arith)
-    (λ c. omega arith)
-    loop-again
+    (λ c. omega arith) loop-again
     (λ c κs. search needs)
-    (λ c κs. search needs)
-    returns-2
-    count-in-requires
+    (λ c κs. search needs) returns-2 count-in-requires
     (λ c. omega arith)
-    (λ c. omega arith)
-    walk-again
+    (λ c. omega arith) walk-again
     (λ c κs. omega arith)
-    (λ c κs. search needs)
-    returns-3
-    (λ c κs. search needs)
-    returns-4)
+    (λ c κs. search needs) returns-3
+    (λ c κs. search needs) returns-4)

@@ -1,9 +1,5 @@
 -- `check::count_in` adds to each count what the definition adds. Assumes nothing.
-use mathlib.Core.Path.{_≡_}
-use mathlib.Core.Bool.{Bool}
-use Prim.Native.Nat.{ℕ, _+_}
-use lib.Dec.{eqb}
-use borrow.Author.Needs.{needs}
+use Rattle.grammar.proofs.Basics.{_≡_, Bool, ℕ, _+_, eqb, needs}
 use Rattle.grammar.specs.Counting.{one-if}
 use Rattle.job.specs.declared.JobRecord.{JobRecord}
 use Rattle.job.specs.declared.Tally.{Tally}
@@ -19,17 +15,6 @@ unfolding counted
 each-added t r rule a b n is p q s = rw (p, q, s, is)
 
 pub count-in-spec : {M : Type 1} → statement M
-count-in-spec =
-    tie.close
-    (tie.spec
-    (λ c κs. search needs)
-    (λ c κs. search needs)
-    (λ c. search needs)
-    (λ c. search needs)
-    (λ c κs. search needs)
-    (λ c. search needs)
-    (λ c. search needs)
-    (λ c κs. search needs)
-    (λ c. search needs)
-    (λ c. search needs)
-    (λ c. search each-added))
+count-in-spec = tie.close (tie.spec (λ c κs. search needs) (λ c κs. search needs) (λ c. search needs)
+    (λ c. search needs) (λ c κs. search needs) (λ c. search needs) (λ c. search needs) (λ c κs. search needs)
+    (λ c. search needs) (λ c. search needs) (λ c. search each-added))

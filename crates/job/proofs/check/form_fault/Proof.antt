@@ -1,13 +1,9 @@
 -- `check::form_fault`: the tests are the definition's; a known kind has one of the seven rows. Assumes nothing.
-use mathlib.Core.Path.{_≡_, sym, _∙_}
-use Prim.Native.Nat.{ℕ, _<_}
-use native.Mathlib.Omega.{arith}
-use borrow.Author.Needs.{needs}
-use borrow.Author.Tests.{eq-eqb, ne-eqb}
+use Rattle.grammar.proofs.Basics.{_≡_, _∙_, sym, ℕ, _<_, eq-eqb, ne-eqb, needs}
 use Rattle.job.specs.declared.JobRecord.{JobRecord}
 use Rattle.job.specs.Format.{rowOf, badField}
 use Rattle.job.specs.Inside.Walk.{formFault}
-use Rattle.job.proofs.Shapes.{row-within}
+use Rattle.job.proofs.Shapes.{known-row}
 use Rattle.job.proofs.check.form_fault.Statement.{statement}
 use Rattle.job.proofs.check.form_fault.Tie as tie
 
@@ -17,12 +13,12 @@ module _ (r : JobRecord) (row : ℕ) (is : row ≡ rowOf (r .kind)) where
   unknown-kind e = rw (eq-eqb (rowOf (r .kind)) 7 (sym is ∙ e))
 
   known-kind : (row ≡ 7 → ⊥) → rowOf (r .kind) < 7
-  known-kind n = omega (arith, row-within (r .kind))
+  known-kind n = known-row (r .kind) (λ q. n (is ∙ q))
 
   module _ (n : row ≡ 7 → ⊥) (bad : ℕ) (found : bad ≡ badField r) where
     misfit : (bad ≡ 0 → ⊥) → 4 ≡ formFault r
     unfolding formFault
-    misfit z = rw (ne-eqb (rowOf (r .kind)) 7 (λ q. n (is ∙ q)), ← found, ne-eqb bad 0 z)
+    misfit z = rw (ne-eqb (rowOf (r .kind)) 7 (λ q. n (is ∙ q)), ← found, ne-eqb _ _ z)
 
     no-fault : bad ≡ 0 → 0 ≡ formFault r
     unfolding formFault

@@ -1,5 +1,5 @@
 -- `check::refuse` makes the refusal that the definition makes. Assumes nothing.
-use mathlib.Core.Path.{refl}
+use Rattle.grammar.proofs.Basics.{refl}
 use Rattle.job.specs.Check.{recordPlace}
 use Rattle.job.proofs.check.refuse.Statement.{statement}
 use Rattle.job.proofs.check.refuse.Tie as tie

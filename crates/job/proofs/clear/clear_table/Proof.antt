@@ -1,10 +1,5 @@
 -- `clear::clear_table`. The loop's invariant: the first i bytes are cleared. Assumes nothing.
-use mathlib.Core.Path.{_≡_, refl}
-use mathlib.Core.List.{List}
-use Prim.Native.Nat.{ℕ, _+_, _-_, _≤_, _<_}
-use native.Mathlib.Numerals.{add-one}
-use native.Mathlib.Omega.{arith}
-use lib.ListN.{length, set, length-set}
+use Rattle.grammar.proofs.Basics.{_≡_, refl, _≤_, _-_, add-one, arith, length, length-set}
 use Rattle.job.specs.Clear.{cleared}
 use Rattle.job.proofs.Clearing.{cleared-more}
 use Rattle.job.proofs.clear.clear_table.Statement.{statement}
@@ -16,10 +11,6 @@ Inv-loop table₀ i₀ table i = (i ≤ 65536) × (length table ≡ length table
 abbrev μ-loop : tie.MeasureT-loop
 μ-loop table₀ i₀ table i = 65536 - i
 
-goes-on : (before table : List ℕ) (i : ℕ) → i < length before → table ≡ cleared i before
-    → set table i 0 ≡ cleared (i + 1) before
-goes-on before table i h e = rw (e, add-one) (cleared-more i before h)
-
 loop-holds : tie.Need-loop-holds Inv-loop μ-loop
 unfolding cleared
 loop-holds c = (omega arith, refl, refl)
@@ -27,7 +18,7 @@ loop-holds c = (omega arith, refl, refl)
 loop-again : tie.Need-loop-again Inv-loop μ-loop
 loop-again c =
     let l = c .before .loop in
-    (omega arith, simp length-set (l .inv .1), goes-on _ (l .table) (l .i) (omega arith) (l .inv .2))
+    (omega arith, simp length-set (l .inv .1), rw (l .inv .2, add-one) (cleared-more (l .i) _ (omega arith)))
 
 returns : tie.Need-returns Inv-loop μ-loop
 returns c =
@@ -36,15 +27,5 @@ returns c =
     rw e at (l .inv .2)
 
 pub clear-table-spec : {M : Type 1} → statement M
-clear-table-spec =
-    tie.close
-    (tie.spec
-    Inv-loop
-    μ-loop
-    loop-holds
-    (λ c. omega arith)
-    (λ c. omega arith)
-    (λ c. omega arith)
-    loop-again
-    (λ c. c .before .loop .inv .1)
-    returns)
+clear-table-spec = tie.close (tie.spec Inv-loop μ-loop loop-holds (λ c. omega arith) (λ c. omega arith)
+    (λ c. omega arith) loop-again (λ c. c .before .loop .inv .1) returns)

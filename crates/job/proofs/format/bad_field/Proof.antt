@@ -1,8 +1,5 @@
 -- `format::bad_field`: the three tests are the definition's, at the row that the kind byte has. Assumes nothing.
-use mathlib.Core.Path.{_≡_}
-use mathlib.Core.Bool.{Bool, true, false, not}
-use Prim.Native.Nat.{ℕ}
-use borrow.Author.Needs.{needs}
+use Rattle.grammar.proofs.Basics.{_≡_, true, false, Bool, not, ℕ, needs}
 use Rattle.job.specs.declared.JobRecord.{JobRecord}
 use Rattle.job.specs.Format.{rowOf, classAt, inClass, badField}
 use Rattle.job.proofs.format.bad_field.Statement.{statement}
@@ -31,14 +28,5 @@ module _ (r : JobRecord) (row : ℕ) (is : row ≡ rowOf (r .kind)) (f : Bool)
 ruleset ways = (first-bad, second-bad, third-bad, none-bad)
 
 pub bad-field-spec : {M : Type 1} → statement M
-bad-field-spec =
-    tie.close
-    (tie.spec
-    (λ c κs. search needs)
-    (λ c κs. search needs)
-    (λ c. search ways)
-    (λ c κs. search needs)
-    (λ c. search ways)
-    (λ c κs. search needs)
-    (λ c. search ways)
-    (λ c. search ways))
+bad-field-spec = tie.close (tie.spec (λ c κs. search needs) (λ c κs. search needs) (λ c. search ways)
+    (λ c κs. search needs) (λ c. search ways) (λ c κs. search needs) (λ c. search ways) (λ c. search ways))

@@ -1,6 +1,5 @@
 -- `format::is_rule`: the first arm has one of the three bytes of rules, the other none of them. Assumes nothing.
-use mathlib.Core.Logic.{⊎-elim, inl, inr}
-use borrow.Author.Tests.{ne-eqb}
+use Rattle.grammar.proofs.Basics.{⊎-elim, inl, inr, ne-eqb}
 use Rattle.job.specs.Format.{byteE, byteU, byteP}
 use Rattle.job.proofs.format.is_rule.Statement.{statement}
 use Rattle.job.proofs.format.is_rule.Tie as tie
@@ -15,8 +14,5 @@ returns-2 c =
     )
 
 pub is-rule-spec : {M : Type 1} → statement M
-is-rule-spec =
-    tie.close
-    (tie.spec
-    (λ c. ⊎-elim (λ e. rw e) (⊎-elim (λ e. rw e) (λ e. rw e)) (c .match .keys1))
+is-rule-spec = tie.close (tie.spec (λ c. ⊎-elim (λ e. rw e) (⊎-elim (λ e. rw e) (λ e. rw e)) (c .match .keys1))
     returns-2)

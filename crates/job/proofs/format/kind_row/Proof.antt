@@ -1,6 +1,6 @@
 -- `format::kind_row` gives the row of a kind byte: each arm has its byte, and the last arm none of the seven. Assumes
 -- nothing.
-use borrow.Author.Tests.{ne-eqb}
+use Rattle.grammar.proofs.Basics.{ne-eqb}
 use Rattle.job.specs.Format.{byteE, byteU, byteP, byteT, byteI, byteF, byteS}
 use Rattle.job.proofs.format.kind_row.Statement.{statement}
 use Rattle.job.proofs.format.kind_row.Tie as tie
@@ -19,14 +19,6 @@ returns-8 c =
     )
 
 pub kind-row-spec : {M : Type 1} → statement M
-kind-row-spec =
-    tie.close
-    (tie.spec
-    (λ c. rw (c .match .keys1))
-    (λ c. rw (c .match .keys2))
-    (λ c. rw (c .match .keys3))
-    (λ c. rw (c .match .keys4))
-    (λ c. rw (c .match .keys5))
-    (λ c. rw (c .match .keys6))
-    (λ c. rw (c .match .keys7))
+kind-row-spec = tie.close (tie.spec (λ c. rw (c .match .keys1)) (λ c. rw (c .match .keys2)) (λ c. rw (c .match .keys3))
+    (λ c. rw (c .match .keys4)) (λ c. rw (c .match .keys5)) (λ c. rw (c .match .keys6)) (λ c. rw (c .match .keys7))
     returns-8)

@@ -1,16 +1,11 @@
 -- `lookup::has_record`. The invariant: none of the records before i is the one looked for. Assumes nothing.
-use mathlib.Core.Path.{_≡_, refl, sym, _∙_}
-use mathlib.Core.Bool.{Bool, true, false}
-use mathlib.Core.List.{List}
-use Prim.Native.Nat.{ℕ, _+_, _-_, _≤_, _<_}
-use native.Mathlib.Numerals.{add-one}
-use native.Mathlib.Omega.{arith}
-use lib.ListN.{length, getD, take}
+use Rattle.grammar.proofs.Basics.{_≡_, _∙_, sym, true, false, Bool, List, ℕ, _<_, _≤_, _+_, _-_, add-one, arith}
+use Rattle.grammar.proofs.Basics.{length, getD, take}
 use lib.Seq.{take-all, take-length}
 use Rattle.job.specs.declared.JobRecord.{JobRecord}
 use Rattle.job.specs.Format.{recordsOf, same, has, noRecord}
 use Rattle.job.proofs.Records.{records-counted}
-use Rattle.job.proofs.Earlier.{none-so-far, has-at}
+use Rattle.job.proofs.Earlier.{none-at-first, none-so-far, has-at}
 use Rattle.job.proofs.lookup.has_record.Statement.{statement}
 use Rattle.job.proofs.lookup.has_record.Tie as tie
 
@@ -33,20 +28,7 @@ module _ (r : JobRecord) (rs : List JobRecord) (count i : ℕ) (all : count ≡ 
     none : count ≤ i → false ≡ has rs r
     none h = let l : length rs ≤ i = omega arith in sym (rw take-all at inv)
 
-loop-holds : tie.Need-loop-holds Inv-loop μ-loop
-unfolding has
-loop-holds c = (sym (records-counted (c .before .args .job .now)), refl)
-
 pub has-record-spec : {M : Type 1} → statement M
-has-record-spec =
-    tie.close
-    (tie.spec
-    Inv-loop
-    μ-loop
-    loop-holds
-    (λ c κs. omega arith)
-    (λ c. search found)
-    (λ c. omega arith)
-    (λ c. omega arith)
-    (λ c. (c .before .before .before .loop .inv .0, search other))
-    (λ c. search none))
+has-record-spec = tie.close (tie.spec Inv-loop μ-loop (λ c. (sym (records-counted _), none-at-first _))
+    (λ c κs. omega arith) (λ c. search found) (λ c. omega arith) (λ c. omega arith)
+    (λ c. (c .before .before .before .loop .inv .0, search other)) (λ c. search none))

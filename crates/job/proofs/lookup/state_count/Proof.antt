@@ -1,13 +1,8 @@
 -- `lookup::state_count`. The invariant: the number of states is the larger of what was met and what the records from i
 -- on name. Assumes nothing.
-use mathlib.Core.Path.{_≡_, sym}
-use mathlib.Core.List.{List}
-use Prim.Native.Nat.{ℕ, suc, _+_, _-_, _≤_, _<_, max}
-use native.Mathlib.Numerals.{add-one}
-use native.Mathlib.Omega.{arith}
-use lib.ListN.{length, getD, drop, drop-of-length-le}
-use lib.Seq.{drop-cons}
-use borrow.Author.Needs.{needs}
+use Rattle.grammar.proofs.Basics.{_≡_, sym, List, ℕ, _<_, _≤_, _+_, suc, _-_, add-one, arith, length, getD, drop}
+use Rattle.grammar.proofs.Basics.{drop-of-length-le, drop-cons, needs}
+use Prim.Native.Nat.{max}
 use Rattle.job.specs.declared.JobRecord.{JobRecord}
 use Rattle.job.specs.Format.{recordsOf, noRecord}
 use Rattle.job.specs.Job.{statesIn, statesOf}
@@ -37,16 +32,6 @@ module _ (rs : List JobRecord) (count i states : ℕ) (all : count ≡ length rs
   no-more h = let l : length rs ≤ i = omega arith in rw (inv, drop-of-length-le rs l) (omega arith)
 
 pub state-count-spec : {M : Type 1} → statement M
-state-count-spec =
-    tie.close
-    (tie.spec
-    Inv-loop
-    μ-loop
-    (λ c. (sym (records-counted (c .before .args .job .now)), omega arith))
-    (λ c κs. omega arith)
-    (λ c κs. search needs)
-    (λ c κs. search needs)
-    (λ c. omega arith)
-    (λ c. omega arith)
-    (λ c. (c .before .before .before .before .loop .inv .0, search one-more))
-    (λ c. search no-more))
+state-count-spec = tie.close (tie.spec Inv-loop μ-loop (λ c. (sym (records-counted _), omega arith))
+    (λ c κs. omega arith) (λ c κs. search needs) (λ c κs. search needs) (λ c. omega arith) (λ c. omega arith)
+    (λ c. (c .before .before .before .before .loop .inv .0, search one-more)) (λ c. search no-more))

@@ -1,9 +1,6 @@
 -- `lookup::states_in`: one law for each kind that names states, and one for the others. Assumes nothing.
-use mathlib.Core.Path.{_≡_}
-use Prim.Native.Nat.{ℕ, _+_, max}
-use native.Mathlib.Numerals.{add-one}
-use borrow.Author.Needs.{needs}
-use borrow.Author.Tests.{ne-eqb}
+use Rattle.grammar.proofs.Basics.{_≡_, ℕ, _+_, add-one, ne-eqb, needs}
+use Prim.Native.Nat.{max}
 use Rattle.job.specs.declared.JobRecord.{JobRecord}
 use Rattle.job.specs.Format.{byteT, byteI, byteF}
 use Rattle.job.specs.Job.{statesIn}
@@ -21,21 +18,11 @@ module _ (r : JobRecord) where
   of-final e = rw (e, add-one)
 
   of-others : (r .kind ≡ byteT → ⊥) → (r .kind ≡ byteI → ⊥) → (r .kind ≡ byteF → ⊥) → 0 ≡ statesIn r
-  of-others t n f = rw (ne-eqb (r .kind) byteT t, ne-eqb (r .kind) byteI n, ne-eqb (r .kind) byteF f)
+  of-others t n f = rw (ne-eqb _ _ t, ne-eqb _ _ n, ne-eqb _ _ f)
 
 ruleset ways = (of-transition, of-initial, of-final, of-others)
 
 pub states-in-spec : {M : Type 1} → statement M
-states-in-spec =
-    tie.close
-    (tie.spec
-    (λ c. search needs)
-    (λ c. search needs)
-    (λ c κs. search needs)
-    (λ c. search needs)
-    (λ c. search ways)
-    (λ c. search needs)
-    (λ c. search ways)
-    (λ c. search needs)
-    (λ c. search ways)
+states-in-spec = tie.close (tie.spec (λ c. search needs) (λ c. search needs) (λ c κs. search needs) (λ c. search needs)
+    (λ c. search ways) (λ c. search needs) (λ c. search ways) (λ c. search needs) (λ c. search ways)
     (λ c. search ways))

@@ -1,10 +1,5 @@
 -- `show::show_refused` gives the bytes of the part, which stands in the job. Assumes nothing.
-use mathlib.Core.Path.{_≡_}
-use mathlib.Core.List.{List}
-use Prim.Native.Nat.{ℕ, _+_, _-_, _≤_}
-use native.Mathlib.Omega.{arith}
-use lib.ListN.{length, take, drop}
-use borrow.Author.Needs.{needs}
+use Rattle.grammar.proofs.Basics.{_≡_, List, ℕ, _≤_, _+_, _-_, arith, length, take, drop, needs}
 use Rattle.job.specs.declared.Part.{Part}
 use Rattle.job.specs.Show.{shownPart, shownOf}
 use Rattle.job.proofs.RefusedPlace.{part-within}
@@ -27,12 +22,5 @@ within : (c : tie.After-struct-known)
 within c = stands (c .before .shown-part .result) _ (c .before .shown-part .ensures)
 
 pub show-refused-spec : {M : Type 1} → statement M
-show-refused-spec =
-    tie.close
-    (tie.spec
-    (λ c κs. search needs)
-    (λ c. omega (arith, within c))
-    (λ c. omega arith)
-    (λ c. omega arith)
-    (λ c. omega (arith, within c))
-    (λ c. search shown))
+show-refused-spec = tie.close (tie.spec (λ c κs. search needs) (λ c. omega (arith, within c)) (λ c. omega arith)
+    (λ c. omega arith) (λ c. omega (arith, within c)) (λ c. search shown))

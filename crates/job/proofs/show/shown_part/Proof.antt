@@ -1,9 +1,5 @@
 -- `show::shown_part`: where the check answers 3 to 7 it names one of at most 4,096 records. Assumes nothing.
-use mathlib.Core.Path.{_≡_, ap, _∙_}
-use mathlib.Core.Bool.{false}
-use mathlib.Core.List.{List}
-use Prim.Native.Nat.{ℕ, _≤_, _<_}
-use borrow.Author.Needs.{needs}
+use Rattle.grammar.proofs.Basics.{_≡_, _∙_, ap, false, List, ℕ, _<_, _≤_, needs}
 use Rattle.job.specs.declared.Limits.{Limits}
 use Rattle.job.specs.declared.Checked.{Checked}
 use Rattle.job.specs.declared.Part.{Part}

@@ -1,5 +1,5 @@
 -- `reporting::operation::refused` meets its contract: field by field. Assumes nothing.
-use mathlib.Core.Path.{refl}
+use Rattle.grammar.proofs.Basics.{refl}
 use Rattle.reporting.proofs.operation.refused.Statement.{statement}
 use Rattle.reporting.proofs.operation.refused.Tie as tie
 

@@ -1,7 +1,6 @@
 -- `reporting::operation::report` meets its contract: a refusal leaves what is lent, and else each operation works on
 -- what the one before left. Assumes nothing.
-use mathlib.Core.Path.{refl, sym, _∙_}
-use borrow.Author.Needs.{needs}
+use Rattle.grammar.proofs.Basics.{refl, _∙_, sym, needs}
 use Rattle.job.proofs.AcceptedFacts.{job-start}
 use Rattle.reporting.proofs.Outcome.{composed, report-refused, report-given}
 use Rattle.reporting.proofs.operation.report.Statement.{statement}
@@ -25,22 +24,7 @@ returns-2 c =
     ∙ report-given _ _ _ _ (e .before .before .report-check .ensures) (e .if1 .left)
 
 pub report-spec : {M : Type 1} → statement M
-report-spec =
-    tie.close
-    (tie.spec
-    (λ c κs. search needs)
-    (λ c κs. search needs)
-    (λ c. refl)
-    (λ c. refl)
-    (λ c. refl)
-    returns
-    (λ c κs. search needs)
-    (λ c κs. search needs)
-    (λ c κs. search needs)
-    (λ c. search needs)
-    (λ c κs. search needs)
-    (λ c κs. search needs)
-    (λ c. search needs)
-    (λ c. search needs)
-    (λ c. search needs)
+report-spec = tie.close (tie.spec (λ c κs. search needs) (λ c κs. search needs) (λ c. refl) (λ c. refl) (λ c. refl)
+    returns (λ c κs. search needs) (λ c κs. search needs) (λ c κs. search needs) (λ c. search needs)
+    (λ c κs. search needs) (λ c κs. search needs) (λ c. search needs) (λ c. search needs) (λ c. search needs)
     returns-2)

@@ -4,8 +4,5 @@ use Rattle.ropeclover.proofs.Finished.{finished-tables}
 use Rattle.ropeclover.proofs.claims.finished_tables.Statement.{statement}
 use Rattle.ropeclover.proofs.claims.finished_tables.Tie as tie
 
-returns : tie.Need-returns
-returns c = finished-tables
-
 pub finished-tables-spec : {M : Type 1} → statement M
-finished-tables-spec = tie.close (tie.spec returns)
+finished-tables-spec = tie.close (tie.spec (λ c. finished-tables))

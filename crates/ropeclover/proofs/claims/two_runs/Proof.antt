@@ -4,8 +4,5 @@ use Rattle.ropeclover.proofs.TwoRunsAlike.{two-runs}
 use Rattle.ropeclover.proofs.claims.two_runs.Statement.{statement}
 use Rattle.ropeclover.proofs.claims.two_runs.Tie as tie
 
-returns : tie.Need-returns
-returns c = two-runs
-
 pub two-runs-spec : {M : Type 1} → statement M
-two-runs-spec = tie.close (tie.spec returns)
+two-runs-spec = tie.close (tie.spec (λ c. two-runs))

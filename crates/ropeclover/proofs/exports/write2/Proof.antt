@@ -1,12 +1,9 @@
 -- `ropeclover::exports::write2` meets its contract: the answer is written whole. Assumes nothing.
-use mathlib.Core.List.{_∷_, []}
-use borrow.Author.Needs.{needs}
+use Rattle.grammar.proofs.Basics.{needs}
 use Rattle.ropeclover.proofs.Written.{written}
 use Rattle.ropeclover.proofs.exports.write2.Statement.{statement}
 use Rattle.ropeclover.proofs.exports.write2.Tie as tie
 
-returns : tie.Need-returns
-returns c = written (c .args .answer .now) (c .args .a ∷ c .args .b ∷ []) (c .pre)
-
 pub write2-spec : {M : Type 1} → statement M
-write2-spec = tie.close (tie.spec (λ c. search needs) (λ c. search needs) (λ c. search needs) returns)
+write2-spec = tie.close (tie.spec (λ c. search needs) (λ c. search needs) (λ c. search needs)
+    (λ c. written (c .args .answer .now) _ (c .pre)))

@@ -1,12 +1,7 @@
 -- `begin::loop_rules` meets its contract. The loop's invariant: what the rules passed so far wrote, and what the
 -- others are still to write, is what all write. Assumes nothing.
-use mathlib.Core.Path.{_≡_, refl, _∙_, ap}
-use mathlib.Core.List.{List, map}
-use Prim.Native.Nat.{ℕ, _+_, _-_, _≤_, _<_}
-use native.Mathlib.Omega.{arith}
-use lib.ListN.{length, getD, take, length-map, List·getD-map}
-use lib.Seq.{length-take-le, getD-take}
-use borrow.Author.Needs.{needs}
+use Rattle.grammar.proofs.Basics.{_≡_, refl, _∙_, List, map, ℕ, _<_, _≤_, _+_, _-_, arith, length, getD, take}
+use Rattle.grammar.proofs.Basics.{length-map, List·getD-map, length-take-le, getD-take, needs}
 use Rattle.grammar.specs.Rule.{Rule}
 use Rattle.saturation.specs.Table.{Lent, lentOf}
 use Rattle.job.specs.Inside.Keys.{ruleOfKey}
@@ -31,59 +26,35 @@ module _ (states : ℕ) (keys : List ℕ) (n : ℕ) (fits : n ≤ length keys) w
   rule-count = length-map (take n keys) ruleOfKey ∙ length-take-le n keys fits
 
   rule-at : (k : ℕ) → k < n → getD (rules keys n) k (ruleOfKey 0) ≡ ruleOfKey (getD keys k 0)
-  rule-at k h = List·getD-map ruleOfKey (take n keys) k 0 ∙ ap ruleOfKey (getD-take n keys k 0 h)
+  rule-at k h = rw (List·getD-map ruleOfKey (take n keys) k 0, getD-take n keys k 0 h)
 
   module _ (m m' : Lent) (k : ℕ) (walked : Walked (loopingAll states) (rules keys n) m m' k) where
-    goes-on :
-        (t t' : List ℕ) → k < n → lentOf t t' ≡ loopingRule states k (ruleOfKey (getD keys k 0)) m' →
+    goes-on : (t t' : List ℕ) → k < n → lentOf t t' ≡ loopingRule states k (ruleOfKey (getD keys k 0)) m' →
         length t ≡ length (m' .table) → length t' ≡ length (m' .reasons) →
         Walked (loopingAll states) (rules keys n) m (lentOf t t') (k + 1)
     unfolding loopingAll
-    goes-on t t' h e l l' =
+    goes-on t t' h e =
         walk-goes-on (loopingAll states) (rules keys n) m m' k walked (loopingRule states) (λ i x xs o. refl)
-        (ruleOfKey 0) (lentOf t t')
-        (omega (arith, rule-count))
-        (rw (rule-at k h) e)
-        (record { table = l; reasons = l' })
+        (ruleOfKey 0) t t' (omega (arith, rule-count)) (rw (rule-at k h) e)
 
     ends : n ≤ k → m' ≡ loopingAll states 0 (rules keys n) m
     unfolding loopingAll
     ends h = walk-ends (loopingAll states) (rules keys n) m m' k walked (λ i o. refl) (omega (arith, rule-count))
 
-loop-all-requires : tie.Need-loop-all-requires Inv-loop μ-loop
-loop-all-requires c κs =
-    let l = c .before .before .before .before in
-    let p = l .before .before .before .before .pre in
-    let long = l .loop .inv .long in
-    ((omega (arith, long .table), omega (arith, long .reasons)), (p .0 .2, p .1 .2 _ (omega arith), omega arith))
-
-loop-again : tie.Need-loop-again Inv-loop μ-loop
-loop-again c =
-    let one = c .before .before .before .before in
-    let l = one .before .before .before .before .before in
-    let p = l .before .before .before .before .pre in
-    goes-on _ _ _ (p .1 .1) _ _ _ (l .loop .inv) _ _ (omega arith) (one .loop-all .ensures) (one .loop-all .kept .0)
-    (one .loop-all .kept .1 .0)
-
-returns : tie.Need-returns Inv-loop μ-loop
-returns c =
-    let p = c .before .before .before .before .before .pre in
-    ends _ _ _ (p .1 .1) _ _ _ (c .before .loop .inv) (c .loop-test .left)
-
 pub loop-rules-spec : {M : Type 1} → statement M
 loop-rules-spec =
     tie.close
-    (tie.spec
-    Inv-loop
-    μ-loop
+    (tie.spec Inv-loop μ-loop
     (λ c. walk-begins _ _ _)
     (λ c. search needs)
     (λ c. omega arith)
     (λ c. omega arith)
-    loop-all-requires
+    (λ c κs.
+    let p = c .before .before .before .before .before .before .before .before .pre in
+    (omega arith, (p .0 .2, p .1 .2 _ (omega arith), omega arith)))
     (λ c. omega arith)
     (λ c. omega arith)
-    loop-again
-    (λ c. c .before .loop .inv .long .table)
-    (λ c. c .before .loop .inv .long .reasons)
-    returns)
+    (λ c. search (goes-on, needs))
+    (λ c. search needs)
+    (λ c. search needs)
+    (λ c. search (ends, needs)))

@@ -1,9 +1,6 @@
 -- `finished::is_finished` meets its contract. The loop's invariant: the places passed so far are searched in vain.
 -- Assumes nothing.
-use mathlib.Core.Path.{sym, _∙_}
-use Prim.Native.Nat.{_-_, _≤_, _<_}
-use native.Mathlib.Omega.{arith}
-use borrow.Author.Needs.{needs}
+use Rattle.grammar.proofs.Basics.{_∙_, sym, _<_, _≤_, _-_, arith, needs}
 use Rattle.saturation.specs.Table.{tableSize}
 use Rattle.saturation.specs.Inside.Search.{LowestIn}
 use Rattle.saturation.proofs.Searches.Searching.{lowest-none, lowest-pass, lowest-stop, lowest-less}
@@ -36,16 +33,5 @@ returns-2 : tie.Need-returns-2 Inv-loop μ-loop
 returns-2 c = sym (passed-finished _ (lowest-less _ _ _ _ (c .loop-test .left) (c .before .loop .inv .1)))
 
 pub is-finished-spec : {M : Type 1} → statement M
-is-finished-spec =
-    tie.close
-    (tie.spec
-    Inv-loop
-    μ-loop
-    (λ c. (omega arith, lowest-none _ _ _ (omega arith)))
-    (λ c. omega arith)
-    (λ c κs. search needs)
-    returns
-    (λ c. omega arith)
-    (λ c. omega arith)
-    loop-again
-    returns-2)
+is-finished-spec = tie.close (tie.spec Inv-loop μ-loop (λ c. (omega arith, lowest-none _ _ _ (omega arith)))
+    (λ c. omega arith) (λ c κs. search needs) returns (λ c. omega arith) (λ c. omega arith) loop-again returns-2)

@@ -1,13 +1,12 @@
 -- `index::index_rules` meets its contract: arrays lent as slices have their lengths. Assumes nothing.
-use native.Mathlib.Omega.{arith}
-use borrow.Author.Needs.{needs}
+use Rattle.grammar.proofs.Basics.{arith, needs}
 use Rattle.saturation.proofs.index.index_rules.Statement.{statement}
 use Rattle.saturation.proofs.index.index_rules.Tie as tie
 
 index-all-requires : tie.Need-index-all-requires
 index-all-requires c κs =
     let s = c .before .before .before in (
-      (omega arith, omega arith, s .pre .0 .1),
+      search arith,
       record { places = omega arith; counters = omega arith; atMost = λ X h. omega (arith, s .pre .1 X h) },
     )
 

@@ -1,8 +1,6 @@
 -- `pending::next_pending` meets its contract. The loop's invariant: the blocks passed so far are searched in vain, and
 -- the flags are true. Assumes nothing.
-use mathlib.Core.Path.{_≡_}
-use Prim.Native.Nat.{_*_, _-_, _≤_}
-use native.Mathlib.Omega.{arith}
+use Rattle.grammar.proofs.Basics.{_≡_, _≤_, _-_, _*_, arith, needs}
 use Rattle.saturation.specs.Table.{tableSize}
 use Rattle.saturation.specs.Inside.Search.{Flags, LowestIn}
 use Rattle.saturation.proofs.Searches.Searching.{lowest-none, lowest-next, lowest-less, lowest-found}
@@ -16,12 +14,6 @@ Inv-loop table rows₀ blocks₀ block₀ rows blocks block =
 
 abbrev μ-loop : tie.MeasureT-loop
 μ-loop table rows₀ blocks₀ block₀ rows blocks block = 32 - block
-
-loop-holds : tie.Need-loop-holds Inv-loop μ-loop
-loop-holds c = (omega arith, lowest-none _ _ _ (omega arith), c .before .pre .1)
-
-flagged-block-pending-requires : tie.Need-flagged-block-pending-requires Inv-loop μ-loop
-flagged-block-pending-requires c κs = (omega arith, omega arith, c .before .before .before .loop .inv .2)
 
 returns : tie.Need-returns Inv-loop μ-loop
 returns c =
@@ -40,20 +32,13 @@ loop-again c =
     let e : s .result ≡ tableSize = omega (arith, s .ensures .0 .within) in
     (omega arith, lowest-next _ _ _ _ _ _ (omega arith) (omega arith) (h .1) (rw e at (s .ensures .0)), s .ensures .1)
 
-returns-2 : tie.Need-returns-2 Inv-loop μ-loop
-returns-2 c =
-    (lowest-of-table _ _ (lowest-less _ _ _ _ (omega arith) (c .before .loop .inv .1)), c .before .loop .inv .2)
-
 pub next-pending-spec : {M : Type 1} → statement M
 next-pending-spec =
     tie.close
-    (tie.spec
-    Inv-loop
-    μ-loop
-    loop-holds
-    flagged-block-pending-requires
-    returns
+    (tie.spec Inv-loop μ-loop
+    (λ c. (omega arith, lowest-none _ _ _ (omega arith), c .before .pre .1))
+    (λ c κs. search needs) returns
     (λ c. omega arith)
-    (λ c. omega arith)
-    loop-again
-    returns-2)
+    (λ c. omega arith) loop-again
+    (λ c.
+    (lowest-of-table _ _ (lowest-less _ _ _ _ (omega arith) (c .before .loop .inv .1)), c .before .loop .inv .2)))

@@ -1,10 +1,7 @@
 -- `pending::row_pending` meets its contract. The loop's invariant: the row's places passed so far are searched in
 -- vain. Assumes nothing.
-use mathlib.Core.Path.{sym, _∙_}
-use Prim.Native.Nat.{_+_, _*_, _-_, _≤_}
+use Rattle.grammar.proofs.Basics.{_∙_, sym, _≤_, _+_, _-_, _*_, arith, needs}
 use native.Mathlib.Nat.{add-assoc}
-use native.Mathlib.Omega.{arith}
-use borrow.Author.Needs.{needs}
 use Rattle.saturation.specs.Table.{tableSize}
 use Rattle.saturation.specs.Inside.Search.{LowestIn}
 use Rattle.saturation.proofs.Searches.Searching.{lowest-none, lowest-pass, lowest-stop, lowest-less}
@@ -37,19 +34,6 @@ returns-2 : tie.Need-returns-2 Inv-loop μ-loop
 returns-2 c = lowest-less _ _ _ _ (omega arith) (c .before .loop .inv .1)
 
 pub row-pending-spec : {M : Type 1} → statement M
-row-pending-spec =
-    tie.close
-    (tie.spec
-    Inv-loop
-    μ-loop
-    (λ c. omega arith)
-    loop-holds
-    (λ c. omega arith)
-    (λ c. omega arith)
-    (λ c κs. search needs)
-    (λ c. omega arith)
-    returns
-    (λ c. omega arith)
-    (λ c. omega arith)
-    loop-again
-    returns-2)
+row-pending-spec = tie.close (tie.spec Inv-loop μ-loop (λ c. omega arith) loop-holds (λ c. omega arith)
+    (λ c. omega arith) (λ c κs. search needs) (λ c. omega arith) returns (λ c. omega arith) (λ c. omega arith)
+    loop-again returns-2)

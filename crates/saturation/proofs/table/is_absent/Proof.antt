@@ -1,5 +1,5 @@
 -- `is_absent` answers what the byte says: 0, or 4 and more. Assumes nothing.
-use borrow.Author.Tests.{ne-eqb}
+use Rattle.grammar.proofs.Basics.{ne-eqb}
 use Rattle.saturation.proofs.Tables.Bytes.{absent-bytes}
 use Rattle.saturation.proofs.table.is_absent.Statement.{statement}
 use Rattle.saturation.proofs.table.is_absent.Tie as tie

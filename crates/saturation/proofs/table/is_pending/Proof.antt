@@ -1,5 +1,5 @@
 -- `is_pending` answers what the byte says: 1 alone. Assumes nothing.
-use mathlib.Core.Path.{sym}
+use Rattle.grammar.proofs.Basics.{sym}
 use Rattle.saturation.proofs.Tables.Bytes.{pending-byte}
 use Rattle.saturation.proofs.table.is_pending.Statement.{statement}
 use Rattle.saturation.proofs.table.is_pending.Tie as tie

@@ -1,8 +1,5 @@
 -- `offer` leaves a byte that is not absent alone, and else writes byte and reason. Assumes nothing.
-use mathlib.Core.Path.{sym, _∙_}
-use native.Mathlib.Omega.{arith}
-use borrow.Author.Needs.{needs}
-use borrow.Author.Tests.{not-true, not-false}
+use Rattle.grammar.proofs.Basics.{_∙_, sym, arith, not-true, not-false, needs}
 use Rattle.saturation.specs.Inside.Offers.{addOffer}
 use Rattle.saturation.proofs.table.offer.Statement.{statement}
 use Rattle.saturation.proofs.table.offer.Tie as tie
@@ -22,26 +19,6 @@ returns-2 c =
     let e = sym (t .before .is-absent .ensures) ∙ not-false (t .before .is-absent .result) (t .if1 .left) in
     (sym e, rw (e, m .make-pending .ensures, s .pre .1 .1))
 
-mul-reasons : tie.Need-mul-reasons
-mul-reasons c =
-    let s = c .before .before .before .before .before .before .before .before .before in
-    omega (arith, s .pre .1 .0, s .pre .1 .1)
-
-slice-write-reasons : tie.Need-slice-write-reasons
-slice-write-reasons c =
-    let s = c .before .before .before .before .before .before .before .before .before in
-    omega (arith, s .pre .0 .1, s .pre .1 .0, s .pre .1 .1)
-
 pub offer-spec : {M : Type 1} → statement M
-offer-spec =
-    tie.close
-    (tie.spec
-    (λ c. search needs)
-    (λ c κs. search needs)
-    returns
-    (λ c κs. search needs)
-    mul-reasons
-    slice-write-reasons
-    (λ c. search needs)
-    (λ c. search needs)
-    returns-2)
+offer-spec = tie.close (tie.spec (λ c. search needs) (λ c κs. search needs) returns (λ c κs. search needs)
+    (λ c. omega arith) (λ c. omega arith) (λ c. search needs) (λ c. search needs) returns-2)

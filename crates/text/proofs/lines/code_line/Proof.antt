@@ -12,17 +12,8 @@ returns c =
     simp append-assoc
     (then
     (c .before .before .before .before .before .before .before .before .before .before .before .put-decimal .ensures)
-    (then
-    (c .before .before .before .before .before .before .put-byte .ensures)
-    (c .before .before .put .ensures)))
+    (then (c .before .before .before .before .before .before .put-byte .ensures) (c .before .before .put .ensures)))
 
 pub code-line-spec : {M : Type 1} → statement M
-code-line-spec =
-    tie.close
-    (tie.spec
-    (λ c κs. search needs)
-    (λ c. search needs)
-    (λ c κs. search needs)
-    (λ c κs. search needs)
-    (λ c. search needs)
-    returns)
+code-line-spec = tie.close (tie.spec (λ c κs. search needs) (λ c. search needs) (λ c κs. search needs)
+    (λ c κs. search needs) (λ c. search needs) returns)

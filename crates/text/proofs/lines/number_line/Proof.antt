@@ -12,17 +12,8 @@ returns c =
     simp append-assoc
     (then
     (c .before .before .before .before .before .before .before .before .before .before .before .put-word .ensures)
-    (then
-    (c .before .before .before .before .before .before .put-number .ensures)
-    (c .before .before .put .ensures)))
+    (then (c .before .before .before .before .before .before .put-number .ensures) (c .before .before .put .ensures)))
 
 pub number-line-spec : {M : Type 1} → statement M
-number-line-spec =
-    tie.close
-    (tie.spec
-    (λ c κs. search needs)
-    (λ c. search needs)
-    (λ c κs. search needs)
-    (λ c κs. search needs)
-    (λ c. search needs)
-    returns)
+number-line-spec = tie.close (tie.spec (λ c κs. search needs) (λ c. search needs) (λ c κs. search needs)
+    (λ c κs. search needs) (λ c. search needs) returns)

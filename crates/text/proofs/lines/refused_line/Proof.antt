@@ -12,18 +12,8 @@ returns c =
     simp append-assoc
     (then
     (c .before .before .before .before .before .before .before .before .before .before .before .put-number .ensures)
-    (then
-    (c .before .before .before .before .before .before .put-number2 .ensures)
-    (c .before .before .put .ensures)))
+    (then (c .before .before .before .before .before .before .put-number2 .ensures) (c .before .before .put .ensures)))
 
 pub refused-line-spec : {M : Type 1} → statement M
-refused-line-spec =
-    tie.close
-    (tie.spec
-    (λ c. search needs)
-    (λ c κs. search needs)
-    (λ c. search needs)
-    (λ c κs. search needs)
-    (λ c κs. search needs)
-    (λ c. search needs)
-    returns)
+refused-line-spec = tie.close (tie.spec (λ c. search needs) (λ c κs. search needs) (λ c. search needs)
+    (λ c κs. search needs) (λ c κs. search needs) (λ c. search needs) returns)

@@ -33,31 +33,19 @@ pub +put-decimal-spec : {M : Type 1} → statement M
   asked-below t,
   put-decimal.Post,
 )
-    (given-at t)
-    put-decimal.Post
+    (given-at t) put-decimal.Post
     (λ c κs. omega arith)
     (λ c κs. omega arith)
     (λ c. c .before .before .put .kept .0)
-    (λ c.
-    one-digit
-    _
-    (omega arith)
-    (omega arith)
-    (c .before .before .before .digit .ensures)
+    (λ c. one-digit _ (omega arith) (omega arith) (c .before .before .before .digit .ensures)
     (c .before .before .put .ensures))
     (λ c κs. (omega arith, omega arith))
     (λ c κs. omega arith)
     (λ c κs.
     let m : 10 ≤ c .before .before .before .before .before .before .before .before .args .n = omega arith in
     omega (arith, digit-room _ (omega arith) m))
-    (λ c.
-    c .before .before .put2 .kept .0
+    (λ c. c .before .before .put2 .kept .0
     ∙ c .before .before .before .before .before .before .before .put-decimal .kept .0)
-    (λ c.
-    digit-more
-    _
-    (omega arith)
-    (omega arith)
-    (c .before .before .before .digit2 .ensures)
+    (λ c. digit-more _ (omega arith) (omega arith) (c .before .before .before .digit2 .ensures)
     (c .before .before .before .before .before .before .before .put-decimal .ensures)
     (c .before .before .put2 .ensures))

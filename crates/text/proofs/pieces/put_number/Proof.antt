@@ -6,8 +6,7 @@ use Rattle.text.proofs.pieces.put_number.Tie as tie
 
 returns : tie.Need-returns
 returns c =
-    then
-    (c .before .before .before .before .before .before .put-word .ensures)
+    then (c .before .before .before .before .before .before .put-word .ensures)
     (c .before .before .put-decimal .ensures)
 
 pub put-number-spec : {M : Type 1} → statement M

@@ -22,29 +22,14 @@ loop-again : tie.Need-loop-again Inv-loop μ-loop
 loop-again c = (
   c .before .before .put .kept .0 ∙ c .before .before .before .before .before .before .loop .inv .0,
   omega arith,
-  byte-more
-      _
-      (c .before .before .before .before .before .before .loop .i)
+  byte-more _ (c .before .before .before .before .before .before .loop .i)
       (c .before .before .before .before .before .loop-test .taken)
-      (c .before .before .before .before .before .before .loop .inv .2)
-      (c .before .before .put .ensures),
+      (c .before .before .before .before .before .before .loop .inv .2) (c .before .before .put .ensures),
 )
 
 returns : tie.Need-returns Inv-loop μ-loop
-returns c =
-    bytes-all _ (c .before .loop .i) (c .loop-test .left) (c .before .loop .inv .1) (c .before .loop .inv .2)
+returns c = bytes-all _ (c .before .loop .i) (c .loop-test .left) (c .before .loop .inv .1) (c .before .loop .inv .2)
 
 pub put-word-spec : {M : Type 1} → statement M
-put-word-spec =
-    tie.close
-    (tie.spec
-    Inv-loop
-    μ-loop
-    loop-holds
-    (λ c. omega arith)
-    (λ c κs. omega arith)
-    (λ c. omega arith)
-    (λ c. omega arith)
-    loop-again
-    (λ c. c .before .loop .inv .0)
-    returns)
+put-word-spec = tie.close (tie.spec Inv-loop μ-loop loop-holds (λ c. omega arith) (λ c κs. omega arith)
+    (λ c. omega arith) (λ c. omega arith) loop-again (λ c. c .before .loop .inv .0) returns)

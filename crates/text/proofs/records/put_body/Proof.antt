@@ -19,20 +19,9 @@ unfolding bodyText
 returns-2 c =
     rw (ne-eqb _ 69 (c .before .before .before .before .before .before .before .before .before .if1 .left))
     (simp append-assoc
-    (then
-    (c .before .before .before .before .before .before .put-byte .ensures)
+    (then (c .before .before .before .before .before .before .put-byte .ensures)
     (c .before .before .put-second .ensures)))
 
 pub put-body-spec : {M : Type 1} → statement M
-put-body-spec =
-    tie.close
-    (tie.spec
-    (λ c. search needs)
-    (λ c κs. search needs)
-    (λ c. search needs)
-    returns
-    (λ c. search needs)
-    (λ c κs. search needs)
-    (λ c κs. search needs)
-    (λ c. search needs)
-    returns-2)
+put-body-spec = tie.close (tie.spec (λ c. search needs) (λ c κs. search needs) (λ c. search needs) returns
+    (λ c. search needs) (λ c κs. search needs) (λ c κs. search needs) (λ c. search needs) returns-2)

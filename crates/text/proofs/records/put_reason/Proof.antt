@@ -19,20 +19,9 @@ unfolding reasonText
 returns-2 c =
     rw (ne-eqb _ 71 (c .before .before .before .before .before .before .before .before .before .if1 .left))
     (simp append-assoc
-    (then
-    (c .before .before .before .before .before .before .put-byte .ensures)
+    (then (c .before .before .before .before .before .before .put-byte .ensures)
     (c .before .before .put-body .ensures)))
 
 pub put-reason-spec : {M : Type 1} → statement M
-put-reason-spec =
-    tie.close
-    (tie.spec
-    (λ c. search needs)
-    (λ c κs. search needs)
-    (λ c. search needs)
-    returns
-    (λ c. search needs)
-    (λ c κs. search needs)
-    (λ c κs. search needs)
-    (λ c. search needs)
-    returns-2)
+put-reason-spec = tie.close (tie.spec (λ c. search needs) (λ c κs. search needs) (λ c. search needs) returns
+    (λ c. search needs) (λ c κs. search needs) (λ c κs. search needs) (λ c. search needs) returns-2)

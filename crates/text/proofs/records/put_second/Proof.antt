@@ -20,21 +20,10 @@ returns-2 c =
     let e = c .before .before .before .before .before .before in
     rw (eq-eqb _ 80 (e .before .before .before .before .before .before .before .before .if1 .left))
     (simp append-assoc
-    (then
-    (e .before .before .before .before .before .put-byte .ensures)
+    (then (e .before .before .before .before .before .put-byte .ensures)
     (then (e .put-byte2 .ensures) (c .before .before .put2 .ensures))))
 
 pub put-second-spec : {M : Type 1} → statement M
-put-second-spec =
-    tie.close
-    (tie.spec
-    (λ c κs. search needs)
-    (λ c. search needs)
-    returns
-    (λ c. search needs)
-    (λ c κs. search needs)
-    (λ c. search needs)
-    (λ c κs. search needs)
-    (λ c κs. search needs)
-    (λ c. search needs)
+put-second-spec = tie.close (tie.spec (λ c κs. search needs) (λ c. search needs) returns (λ c. search needs)
+    (λ c κs. search needs) (λ c. search needs) (λ c κs. search needs) (λ c κs. search needs) (λ c. search needs)
     returns-2)

@@ -11,21 +11,9 @@ unfolding transitionText
 returns c =
     let e = c .before .before .before .before .before .before .before in
     simp append-assoc
-    (then
-    (e .before .before .before .before .before .put-byte .ensures)
-    (then
-    (e .put-byte2 .ensures)
-    (c .before .before .put-byte3 .ensures)))
+    (then (e .before .before .before .before .before .put-byte .ensures)
+    (then (e .put-byte2 .ensures) (c .before .before .put-byte3 .ensures)))
 
 pub put-transition-spec : {M : Type 1} → statement M
-put-transition-spec =
-    tie.close
-    (tie.spec
-    (λ c. search needs)
-    (λ c κs. search needs)
-    (λ c. search needs)
-    (λ c κs. search needs)
-    (λ c. search needs)
-    (λ c κs. search needs)
-    (λ c. search needs)
-    returns)
+put-transition-spec = tie.close (tie.spec (λ c. search needs) (λ c κs. search needs) (λ c. search needs)
+    (λ c κs. search needs) (λ c. search needs) (λ c κs. search needs) (λ c. search needs) returns)

@@ -10,8 +10,7 @@ returns : tie.Need-returns
 unfolding recordLine
 returns c =
     rw add-zero
-    (then
-    (c .before .before .before .before .before .before .before .before .before .put-transition .ensures)
+    (then (c .before .before .before .before .before .before .before .before .before .put-transition .ensures)
     (c .before .before .put-reason .ensures))
 
 pub record-line-spec : {M : Type 1} → statement M

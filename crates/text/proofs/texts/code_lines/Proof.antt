@@ -26,12 +26,9 @@ loop-again : tie.Need-loop-again Inv-loop μ-loop
 loop-again c = (
   c .before .before .code-line .kept .0 ∙ c .before .before .before .before .before .before .loop .inv .0,
   omega arith,
-  line-more
-      _
-      (c .before .before .before .before .before .before .loop .x)
+  line-more _ (c .before .before .before .before .before .before .loop .x)
       (42 * (c .before .before .before .before .before .before .loop .x + 1))
-      (c .before .before .before .before .before .before .loop .inv .2)
-      (c .before .before .code-line .ensures)
+      (c .before .before .before .before .before .before .loop .inv .2) (c .before .before .code-line .ensures)
       (omega arith),
 )
 
@@ -41,16 +38,5 @@ returns c =
     rw e at (c .before .loop .inv .2)
 
 pub code-lines-spec : {M : Type 1} → statement M
-code-lines-spec =
-    tie.close
-    (tie.spec
-    Inv-loop
-    μ-loop
-    loop-holds
-    (λ c. omega arith)
-    (λ c κs. omega arith)
-    (λ c. omega arith)
-    (λ c. omega arith)
-    loop-again
-    (λ c. c .before .loop .inv .0)
-    returns)
+code-lines-spec = tie.close (tie.spec Inv-loop μ-loop loop-holds (λ c. omega arith) (λ c κs. omega arith)
+    (λ c. omega arith) (λ c. omega arith) loop-again (λ c. c .before .loop .inv .0) returns)

@@ -17,18 +17,8 @@ returns-2 : tie.Need-returns-2
 unfolding codesText
 returns-2 c =
     rw (eq-eqb _ 0 (c .before .before .before .before .before .if1 .left))
-    (within
-    (rw (c .before .before .before .least .ensures) at (c .before .before .code-lines .ensures))
-    (omega arith))
+    (within (rw (c .before .before .before .least .ensures) at (c .before .before .code-lines .ensures)) (omega arith))
 
 pub codes-lines-spec : {M : Type 1} → statement M
-codes-lines-spec =
-    tie.close
-    (tie.spec
-    (λ c κs. search needs)
-    (λ c. search needs)
-    returns
-    (λ c κs. search needs)
-    (λ c κs. search needs)
-    (λ c. search needs)
-    returns-2)
+codes-lines-spec = tie.close (tie.spec (λ c κs. search needs) (λ c. search needs) returns (λ c κs. search needs)
+    (λ c κs. search needs) (λ c. search needs) returns-2)

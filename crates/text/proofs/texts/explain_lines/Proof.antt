@@ -23,23 +23,11 @@ returns-2 c =
     let e = c .before .before .before .before .before .before .before in
     rw (eq-eqb _ 0 (e .before .before .before .before .before .before .before .before .if1 .left))
     (within
-    (then
-    (then (e .before .before .before .before .before .answer-line .ensures) (e .number-line .ensures))
+    (then (then (e .before .before .before .before .before .answer-line .ensures) (e .number-line .ensures))
     (rw (c .before .before .before .shown-records .ensures) at (c .before .before .record-lines .ensures)))
     (omega arith))
 
 pub explain-lines-spec : {M : Type 1} → statement M
-explain-lines-spec =
-    tie.close
-    (tie.spec
-    (λ c κs. search needs)
-    (λ c. search needs)
-    returns
-    (λ c. search needs)
-    (λ c κs. search needs)
-    (λ c. search needs)
-    (λ c κs. search needs)
-    (λ c κs. search needs)
-    record-lines-requires
-    (λ c. search needs)
-    returns-2)
+explain-lines-spec = tie.close (tie.spec (λ c κs. search needs) (λ c. search needs) returns (λ c. search needs)
+    (λ c κs. search needs) (λ c. search needs) (λ c κs. search needs) (λ c κs. search needs) record-lines-requires
+    (λ c. search needs) returns-2)

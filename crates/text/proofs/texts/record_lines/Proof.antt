@@ -25,12 +25,9 @@ loop-again : tie.Need-loop-again Inv-loop μ-loop
 loop-again c = (
   c .before .before .record-line .kept .0 ∙ c .before .before .before .before .before .loop .inv .0,
   omega arith,
-  line-more
-      _
-      (c .before .before .before .before .before .loop .k)
+  line-more _ (c .before .before .before .before .before .loop .k)
       (156 * (c .before .before .before .before .before .loop .k + 1))
-      (c .before .before .before .before .before .loop .inv .2)
-      (c .before .before .record-line .ensures)
+      (c .before .before .before .before .before .loop .inv .2) (c .before .before .record-line .ensures)
       (omega arith),
 )
 

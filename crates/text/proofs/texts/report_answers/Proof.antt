@@ -7,21 +7,9 @@ use Rattle.text.proofs.texts.report_answers.Tie as tie
 returns : tie.Need-returns
 returns c =
     let e = c .before .before .before .before .before .before .before in
-    then
-    (then
-    (e .before .before .before .before .before .answer-line .ensures)
-    (e .answer-line2 .ensures))
+    then (then (e .before .before .before .before .before .answer-line .ensures) (e .answer-line2 .ensures))
     (c .before .before .answer-line3 .ensures)
 
 pub report-answers-spec : {M : Type 1} → statement M
-report-answers-spec =
-    tie.close
-    (tie.spec
-    (λ c. search needs)
-    (λ c κs. search needs)
-    (λ c. search needs)
-    (λ c κs. search needs)
-    (λ c. search needs)
-    (λ c κs. search needs)
-    (λ c. search needs)
-    returns)
+report-answers-spec = tie.close (tie.spec (λ c. search needs) (λ c κs. search needs) (λ c. search needs)
+    (λ c κs. search needs) (λ c. search needs) (λ c κs. search needs) (λ c. search needs) returns)

@@ -18,19 +18,10 @@ returns-2 : tie.Need-returns-2
 unfolding reportText
 returns-2 c =
     let six = then (c .before .before .before .before .before .before .report-numbers .ensures)
-    (c .before .before .report-answers .ensures)
-    in
+    (c .before .before .report-answers .ensures) in
     rw (eq-eqb _ 0 (c .before .before .before .before .before .before .before .before .if1 .left))
     (simp append-assoc (simp append-assoc at six))
 
 pub report-lines-spec : {M : Type 1} → statement M
-report-lines-spec =
-    tie.close
-    (tie.spec
-    (λ c κs. search needs)
-    (λ c. search needs)
-    returns
-    (λ c κs. search needs)
-    (λ c κs. search needs)
-    (λ c. search needs)
-    returns-2)
+report-lines-spec = tie.close (tie.spec (λ c κs. search needs) (λ c. search needs) returns (λ c κs. search needs)
+    (λ c κs. search needs) (λ c. search needs) returns-2)

@@ -1,16 +1,17 @@
 -- `verdicts::codes::name_rule` meets its contract: the head and the symbols of the body are raised. Assumes nothing.
-use native.Mathlib.Omega.{arith}
+use Rattle.grammar.proofs.Basics.{or-assoc, arith}
+use Rattle.verdicts.specs.Sets.{anyIn}
 use Rattle.verdicts.specs.Inside.Flags.{flagged}
-use Rattle.verdicts.proofs.Raising.{flags-bits}
-use Rattle.verdicts.proofs.Adding.{raise-names}
+use Rattle.verdicts.proofs.Raising.{flags-bits, flags-alike}
+use Rattle.verdicts.proofs.KeyRules.{from-head}
 use Rattle.verdicts.proofs.codes.name_rule.Statement.{statement}
 use Rattle.verdicts.proofs.codes.name_rule.Tie as tie
 
 returns : tie.Need-returns
+unfolding anyIn
 returns c = λ s held.
-    let r = c .before .before in
-    let first = r .raise .ensures s held in
-    raise-names (r .before .before .args .rule) first (c .raise-body .ensures _ (first .flags))
+    let first = c .before .before .raise .ensures s held in
+    flags-alike (c .raise-body .ensures _ (first .flags) .flags) (λ X _. simp (from-head, or-assoc))
 
 raise-body-requires : tie.Need-raise-body-requires
 raise-body-requires c κs =

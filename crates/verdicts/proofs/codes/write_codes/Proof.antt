@@ -1,10 +1,5 @@
 -- `verdicts::codes::write_codes` meets its contract: the first x codes are written. Assumes nothing.
-use mathlib.Core.Path.{_≡_, refl, _∙_}
-use mathlib.Core.Bool.{Bool, cond}
-use Prim.Native.Nat.{ℕ, _≤_, _-_}
-use native.Mathlib.Omega.{arith}
-use borrow.Author.Needs.{needs}
-use lib.ListN.{length, length-set}
+use Rattle.grammar.proofs.Basics.{_≡_, refl, _∙_, Bool, cond, ℕ, _≤_, _-_, arith, length, length-set, needs}
 use Rattle.verdicts.specs.Operation.{written}
 use Rattle.verdicts.specs.Inside.Flags.{Holds}
 use Rattle.verdicts.proofs.Filling.{written-more}
@@ -34,8 +29,7 @@ loop-again c =
     let h : x ≤ 63 = omega arith in (
       omega arith,
       length-set (l .loop .codes) x (c .code-of .result) ∙ l .loop .inv .1,
-      λ n p u named productive useful.
-          written-more (code n p u) x (l .before .before .args .codes .now) (omega arith)
+      λ n p u named productive useful. written-more (code n p u) x (l .before .before .args .codes .now) (omega arith)
           (l .loop .inv .2 n p u named productive useful)
           (c .code-of .ensures ∙ rw (named x (omega arith), productive x (omega arith), useful x (omega arith))),
     )
@@ -47,19 +41,6 @@ returns c = λ n p u named productive useful.
     rw e at (c .before .loop .inv .2 n p u named productive useful)
 
 pub write-codes-spec : {M : Type 1} → statement M
-write-codes-spec =
-    tie.close
-    (tie.spec
-    Inv-loop
-    μ-loop
-    loop-holds
-    (λ c. omega arith)
-    (λ c. omega arith)
-    (λ c. omega arith)
-    (λ c κs. search needs)
-    (λ c. omega arith)
-    (λ c. omega arith)
-    (λ c. omega arith)
-    loop-again
-    (λ c. c .before .loop .inv .1)
-    returns)
+write-codes-spec = tie.close (tie.spec Inv-loop μ-loop loop-holds (λ c. omega arith) (λ c. omega arith)
+    (λ c. omega arith) (λ c κs. search needs) (λ c. omega arith) (λ c. omega arith) (λ c. omega arith) loop-again
+    (λ c. c .before .loop .inv .1) returns)

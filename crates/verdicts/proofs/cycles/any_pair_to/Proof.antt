@@ -1,17 +1,12 @@
 -- `verdicts::cycles::any_pair_to` meets its contract: it is said whether one of the first k rules is found. Assumes
 -- nothing.
-use mathlib.Core.Path.{_≡_, refl, sym, _∙_}
-use mathlib.Core.Bool.{Bool, _&&_}
-use Prim.Native.Nat.{ℕ, _≤_, _-_}
-use native.Mathlib.Omega.{arith}
-use borrow.Author.Needs.{needs}
-use lib.ListN.{getD}
+use Rattle.grammar.proofs.Basics.{_≡_, refl, _∙_, sym, Bool, _&&_, ℕ, _≤_, _-_, arith, getD, needs}
 use Rattle.verdicts.specs.Sets.{ruleIn, anyRule}
 use Rattle.verdicts.specs.Inside.Flags.{Holds, ruleFrom, rulesOfKeys}
 use Rattle.verdicts.specs.Inside.Cycles.{pairTo}
-use Rattle.verdicts.proofs.Tests.{any-within}
-use Rattle.verdicts.proofs.KeyRules.{read-rule, read-fits, from-below}
-use Rattle.verdicts.proofs.Cyclic.{found-more}
+use Rattle.verdicts.proofs.Tests.{all-same, any-rule-more, any-within}
+use Rattle.verdicts.proofs.KeyRules.{read-rule, read-fits, from-below, rules-more}
+use Rattle.verdicts.proofs.Cyclic.{pair-same}
 use Rattle.verdicts.proofs.cycles.any_pair_to.Statement.{statement}
 use Rattle.verdicts.proofs.cycles.any_pair_to.Tie as tie
 
@@ -32,9 +27,7 @@ found-pair-requires : tie.Need-found-pair-requires Inv-loop μ-loop
 found-pair-requires c κs =
     let t = c .before .before in
     let l = t .before in
-    let s = l .before in
-    read-fits (getD (s .args .keys .now) (l .loop .k) 0) (c .unpack .ensures)
-    (s .pre .fit (l .loop .k) (t .loop-test .taken))
+    read-fits _ (c .unpack .ensures) (l .before .pre .fit _ (t .loop-test .taken))
 
 loop-again : tie.Need-loop-again Inv-loop μ-loop
 loop-again c =
@@ -42,17 +35,22 @@ loop-again c =
     let t = u .before .before in
     let l = t .before in
     let s = l .before in
-    let key = getD (s .args .keys .now) (l .loop .k) 0 in
-    let fits = read-fits key (u .unpack .ensures) (s .pre .fit (l .loop .k) (t .loop-test .taken)) in (
+    let keys = s .args .keys .now in
+    let below =
+    from-below (u .unpack .result) (read-fits _ (u .unpack .ensures) (s .pre .fit _ (t .loop-test .taken))) in
+    let more = rules-more keys (l .loop .k) (omega (arith, s .pre .long)) in
+    let read = read-rule (getD keys (l .loop .k) 0) (u .unpack .ensures) in (
       omega arith,
       λ counting set cs held.
-          found-more (s .args .symbol) (s .args .counts .now) (s .args .leading .now) cs held (s .args .keys .now)
-          (l .loop .k) (omega (arith, s .pre .long))
-          (ruleFrom (u .unpack .result))
-          (read-rule key (u .unpack .ensures))
-          (from-below (u .unpack .result) fits)
-          (l .loop .inv .1 counting set cs held)
-          (c .found-pair .ensures),
+          rw (
+            c .found-pair .ensures,
+            l .loop .inv .1 counting set cs held,
+            more,
+            any-rule-more,
+            ← read,
+            all-same cs below,
+            pair-same (s .args .symbol) held (ruleFrom (u .unpack .result)) below,
+          ),
     )
 
 returns : tie.Need-returns Inv-loop μ-loop
@@ -64,17 +62,5 @@ returns c = λ counting set cs held.
     (any-within counting (pairTo (s .args .symbol) set) (rulesOfKeys (s .args .keys .now) (s .args .n)))
 
 pub any-pair-to-spec : {M : Type 1} → statement M
-any-pair-to-spec =
-    tie.close
-    (tie.spec
-    Inv-loop
-    μ-loop
-    loop-holds
-    (λ c. omega arith)
-    (λ c. omega arith)
-    (λ c κs. search needs)
-    found-pair-requires
-    (λ c. omega arith)
-    (λ c. omega arith)
-    loop-again
-    returns)
+any-pair-to-spec = tie.close (tie.spec Inv-loop μ-loop loop-holds (λ c. omega arith) (λ c. omega arith)
+    (λ c κs. search needs) found-pair-requires (λ c. omega arith) (λ c. omega arith) loop-again returns)

@@ -1,6 +1,6 @@
 -- `verdicts::cycles::cycle_at` meets its contract: what leads to the symbol is flagged, then a pair rule is looked
 -- for. Assumes nothing.
-use borrow.Author.Needs.{needs}
+use Rattle.grammar.proofs.Basics.{needs}
 use Rattle.verdicts.proofs.Raising.{flags-test}
 use Rattle.verdicts.proofs.cycles.cycle_at.Statement.{statement}
 use Rattle.verdicts.proofs.cycles.cycle_at.Tie as tie
@@ -11,5 +11,4 @@ returns c =
     (flags-test (c .before .before .leading-symbols .ensures counting cs))
 
 pub cycle-at-spec : {M : Type 1} → statement M
-cycle-at-spec =
-    tie.close (tie.spec (λ c κs. search needs) (λ c κs. c .before .before .before .pre .0) returns)
+cycle-at-spec = tie.close (tie.spec (λ c κs. search needs) (λ c κs. c .before .before .before .pre .0) returns)

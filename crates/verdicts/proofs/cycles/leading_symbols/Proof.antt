@@ -1,16 +1,9 @@
 -- `verdicts::cycles::leading_symbols` meets its contract: the symbol alone grows backwards. Assumes nothing.
-use mathlib.Core.Bool.{and-true}
-use lib.Dec.{eqb}
+use Rattle.grammar.proofs.Basics.{and-true, eqb}
 use Rattle.verdicts.specs.Verdicts.{leads}
 use Rattle.verdicts.proofs.Raising.{flags-alike, flags-bits}
 use Rattle.verdicts.proofs.cycles.leading_symbols.Statement.{statement}
 use Rattle.verdicts.proofs.cycles.leading_symbols.Tie as tie
-
-grow-requires : tie.Need-grow-requires
-grow-requires c κs =
-    let f = c .before in
-    let s = f .before .before in
-    (s .pre .0, flags-bits (f .flag-one .ensures))
 
 returns : tie.Need-returns
 unfolding leads
@@ -20,4 +13,5 @@ returns c = λ counting cs.
     c .grow .ensures counting (λ X. eqb Z X) cs (flags-alike (f .flag-one .ensures) (λ X _. and-true (eqb Z X)))
 
 pub leading-symbols-spec : {M : Type 1} → statement M
-leading-symbols-spec = tie.close (tie.spec (λ c κs. c .before .pre .1) grow-requires returns)
+leading-symbols-spec = tie.close (tie.spec (λ c κs. c .before .pre .1)
+    (λ c κs. (c .before .before .before .pre .0, flags-bits (c .before .flag-one .ensures))) returns)

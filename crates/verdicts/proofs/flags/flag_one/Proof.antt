@@ -1,8 +1,7 @@
 -- `verdicts::flags::flag_one` meets its contract: one flag is raised among zeros. Assumes nothing.
-use mathlib.Core.Bool.{false, and-comm}
-use lib.Dec.{eqb}
-use Rattle.verdicts.proofs.Adding.{zeros-held}
-use Rattle.verdicts.proofs.Raising.{flags-alike, flags-bits}
+use Rattle.grammar.proofs.Basics.{false, eqb}
+use mathlib.Core.Bool.{and-comm}
+use Rattle.verdicts.proofs.Raising.{zeros-held, flags-alike, flags-bits}
 use Rattle.verdicts.proofs.flags.flag_one.Statement.{statement}
 use Rattle.verdicts.proofs.flags.flag_one.Tie as tie
 

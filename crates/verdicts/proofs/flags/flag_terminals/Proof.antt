@@ -1,9 +1,5 @@
 -- `verdicts::flags::flag_terminals` meets its contract: the first x flags are written. Assumes nothing.
-use mathlib.Core.Path.{_≡_, refl, _∙_, ap}
-use Prim.Native.Nat.{_≤_, _-_}
-use native.Mathlib.Omega.{arith}
-use borrow.Author.Needs.{needs}
-use lib.ListN.{length, replicate}
+use Rattle.grammar.proofs.Basics.{_≡_, refl, _∙_, ap, _≤_, _-_, arith, length, replicate, needs}
 use Rattle.grammar.specs.Counting.{one-if}
 use Rattle.verdicts.specs.Verdicts.{isTerminal}
 use Rattle.verdicts.specs.Operation.{written}
@@ -40,17 +36,5 @@ returns c =
     written-flags (replicate 64 0) refl (rw e at (c .before .loop .inv .1))
 
 pub flag-terminals-spec : {M : Type 1} → statement M
-flag-terminals-spec =
-    tie.close
-    (tie.spec
-    Inv-loop
-    μ-loop
-    loop-holds
-    (λ c κs. search needs)
-    (λ c κs. search needs)
-    (λ c. omega arith)
-    element-write-flags
-    (λ c. omega arith)
-    (λ c. omega arith)
-    loop-again
-    returns)
+flag-terminals-spec = tie.close (tie.spec Inv-loop μ-loop loop-holds (λ c κs. search needs) (λ c κs. search needs)
+    (λ c. omega arith) element-write-flags (λ c. omega arith) (λ c. omega arith) loop-again returns)

@@ -1,6 +1,5 @@
 -- `verdicts::flags::rule_all` meets its contract: the head is tested, then the body. Assumes nothing.
-use borrow.Author.Needs.{needs}
-use borrow.Author.Tests.{eq-eqb, ne-eqb}
+use Rattle.grammar.proofs.Basics.{eq-eqb, ne-eqb, needs}
 use Rattle.verdicts.specs.Sets.{allIn}
 use Rattle.verdicts.proofs.KeyRules.{from-head}
 use Rattle.verdicts.proofs.flags.rule_all.Statement.{statement}
@@ -15,5 +14,4 @@ unfolding allIn
 returns-2 c = rw (from-head, eq-eqb _ _ (c .before .if1 .left)) (c .body-all .ensures)
 
 pub rule-all-spec : {M : Type 1} → statement M
-rule-all-spec =
-    tie.close (tie.spec (λ c. search needs) (λ c. search needs) returns (λ c κs. search needs) returns-2)
+rule-all-spec = tie.close (tie.spec (λ c. search needs) (λ c. search needs) returns (λ c κs. search needs) returns-2)

@@ -1,10 +1,6 @@
 -- `verdicts::operation::give` meets its contract: the keys are those of the job's rules, so what `judge` says is said
 -- of the job. Assumes nothing.
-use mathlib.Core.Path.{_≡_, sym, _∙_}
-use Prim.Native.Nat.{ℕ}
-use mathlib.Core.List.{List}
-use native.Mathlib.Omega.{arith}
-use borrow.Author.Needs.{needs}
+use Rattle.grammar.proofs.Basics.{_≡_, _∙_, sym, List, ℕ, arith, needs}
 use Rattle.grammar.specs.Rule.{Rule}
 use Rattle.job.specs.Clear.{cleared}
 use Rattle.job.specs.Job.{Job, jobOf}
@@ -17,39 +13,21 @@ use Rattle.verdicts.proofs.operation.give.Statement.{statement}
 use Rattle.verdicts.proofs.operation.give.Tie as tie
 
 -- what is left, by the job's rules and start symbol
-left :
-    (J : Job) (table codes : List ℕ) {rules : List Rule} {S : ℕ} {answer : Verdicts} {table' codes' : List ℕ} →
+left : (J : Job) (table codes : List ℕ) {rules : List Rule} {S : ℕ} {answer : Verdicts} {table' codes' : List ℕ} →
     rules ≡ J .rules → S ≡ J .start →
     table' ≡ cleared 65536 table →
     (answer ≡ record { number = 0; place = 0; empty = isEmpty rules S; growing = growing rules S })
     × (codes' ≡ written (codeOf rules S) 0 64 codes) →
     verdictsLeave answer table' codes' ≡ verdictsOn J table codes
 unfolding verdictsOn
-left J table codes e f t p =
-    let a = rw (e, f) at (p .0) in
-    let c = rw (e, f) at (p .1) in
-    λ i. record { answer = a i; table = t i; codes = c i }
-
-sorted-rules-requires : tie.Need-sorted-rules-requires
-sorted-rules-requires c κs =
-    let s = c .before .before .before .before in
-    s .pre .0 .few-rules
+left J table codes e f t p = rw (t, p .0, p .1, e, f)
 
 judge-requires : tie.Need-judge-requires
 judge-requires c κs =
     let f = c .before .before .before .before .before .before in
-    let r = f .before in
-    let s = r .before .before .before .before .before in
-    let e = r .sorted-rules .ensures in (
-      record {
-        few = keys-within (s .pre .0) _ _ (e .0) (e .1);
-        long = keys-long (s .pre .0) _ _ (e .0) (e .1);
-        fit = keys-fit (s .pre .0) _ _ (e .0) (e .1);
-      },
-      (
-        omega (arith, f .field-of .ensures, job-start (s .args .job .now), start-below (s .pre .0)),
-        s .pre .1 .1,
-      ),
+    let s = f .before .before .before .before .before .before in (
+      search (keys-within (s .pre .0), keys-long (s .pre .0), keys-fit (s .pre .0)),
+      (omega (arith, f .field-of .ensures, job-start (s .args .job .now), start-below (s .pre .0)), s .pre .1 .1),
     )
 
 returns : tie.Need-returns
@@ -61,18 +39,8 @@ returns c =
     let job = s .args .job .now in
     left (jobOf job) (s .args .table .now) (s .args .codes .now)
     (rules-of-keys (s .pre .0) _ _ (r .sorted-rules .ensures .0) (r .sorted-rules .ensures .1))
-    (f .field-of .ensures ∙ sym (job-start job))
-    (t .clear-table .ensures)
-    (c .before .before .judge .ensures)
+    (f .field-of .ensures ∙ sym (job-start job)) (t .clear-table .ensures) (c .before .before .judge .ensures)
 
 pub give-spec : {M : Type 1} → statement M
-give-spec =
-    tie.close
-    (tie.spec
-    sorted-rules-requires
-    (λ c κs. search needs)
-    (λ c κs. search needs)
-    judge-requires
-    (λ c. search needs)
-    (λ c. search needs)
-    returns)
+give-spec = tie.close (tie.spec (λ c κs. c .before .before .before .before .pre .0 .few-rules) (λ c κs. search needs)
+    (λ c κs. search needs) judge-requires (λ c. search needs) (λ c. search needs) returns)

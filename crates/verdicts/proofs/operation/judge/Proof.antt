@@ -1,18 +1,9 @@
 -- `verdicts::operation::judge` meets its contract: the flags hold the computed sets, so the codes and the answers are
 -- the computed ones. Assumes nothing.
-use mathlib.Core.Path.{_≡_, ap}
-use mathlib.Core.Bool.{Bool, not}
-use borrow.Author.Needs.{needs}
-use Rattle.verdicts.specs.declared.Verdicts.{Verdicts}
-use Rattle.verdicts.specs.Verdicts.{growing}
+use Rattle.grammar.proofs.Basics.{needs}
 use Rattle.verdicts.proofs.Raising.{flags-test}
 use Rattle.verdicts.proofs.operation.judge.Statement.{statement}
 use Rattle.verdicts.proofs.operation.judge.Tie as tie
-
-answered : {a b c d : Bool} → a ≡ b → c ≡ d →
-    _≡_ {A = Verdicts} (record { number = 0; place = 0; empty = a; growing = c })
-    (record { number = 0; place = 0; empty = b; growing = d })
-answered p q = λ i. record { number = 0; place = 0; empty = p i; growing = q i }
 
 returns : tie.Need-returns
 returns c =
@@ -21,22 +12,14 @@ returns c =
     let u = n .before .before in
     let p = u .before .before .before in
     let s = p .before .before .before in (
-      answered (ap not (flags-test (p .productive-symbols .ensures) (s .args .start) (s .pre .1 .0)))
-          (c .any-cycle .ensures _ (flags-test (u .useful-symbols .ensures))),
+      rw (
+        flags-test (p .productive-symbols .ensures) (s .args .start) (s .pre .1 .0),
+        c .any-cycle .ensures _ (flags-test (u .useful-symbols .ensures)),
+      ),
       w .write-codes .ensures _ _ _ (flags-test (n .named-symbols .ensures))
-          (flags-test (p .productive-symbols .ensures))
-          (flags-test (u .useful-symbols .ensures)),
+          (flags-test (p .productive-symbols .ensures)) (flags-test (u .useful-symbols .ensures)),
     )
 
 pub judge-spec : {M : Type 1} → statement M
-judge-spec =
-    tie.close
-    (tie.spec
-    (λ c κs. search needs)
-    (λ c κs. search needs)
-    (λ c κs. search needs)
-    (λ c κs. search needs)
-    (λ c κs. search needs)
-    (λ c. search needs)
-    (λ c. search needs)
-    returns)
+judge-spec = tie.close (tie.spec (λ c κs. search needs) (λ c κs. search needs) (λ c κs. search needs)
+    (λ c κs. search needs) (λ c κs. search needs) (λ c. search needs) (λ c. search needs) returns)

@@ -1,7 +1,6 @@
 -- `verdicts::operation::verdicts_check` meets its contract: each way out gives the tests their values. Assumes
 -- nothing.
-use borrow.Author.Needs.{needs}
-use borrow.Author.Tests.{lt-ltb, le-ltb}
+use Rattle.grammar.proofs.Basics.{lt-ltb, le-ltb, needs}
 use Rattle.verdicts.specs.Operation.{verdictsCheck}
 use Rattle.verdicts.proofs.operation.verdicts_check.Statement.{statement}
 use Rattle.verdicts.proofs.operation.verdicts_check.Tie as tie
@@ -21,5 +20,4 @@ returns-3 c =
     (rw (c .before .full-limits .ensures) at (c .check .ensures))
 
 pub verdicts-check-spec : {M : Type 1} → statement M
-verdicts-check-spec =
-    tie.close (tie.spec returns returns-2 (λ c κs. search needs) (λ c κs. search needs) returns-3)
+verdicts-check-spec = tie.close (tie.spec returns returns-2 (λ c κs. search needs) (λ c κs. search needs) returns-3)

@@ -1,9 +1,6 @@
 -- `verdicts::passes::grow` meets its contract: the flags lie between the set and what it grows to; each pass that goes
 -- on adds to them. Assumes nothing.
-use mathlib.Core.Path.{refl}
-use mathlib.Core.Bool.{Bool}
-use Prim.Native.Nat.{ℕ, _-_}
-use native.Mathlib.Omega.{arith}
+use Rattle.grammar.proofs.Basics.{refl, Bool, ℕ, _-_, arith}
 use Rattle.grammar.specs.Counting.{count}
 use Rattle.verdicts.specs.Sets.{within}
 use Rattle.verdicts.specs.Inside.Flags.{Flags, Holds, flagged, Bits, rulesOfKeys}
@@ -21,40 +18,28 @@ Inv-loop flags₀ keys n direction counts flags =
 abbrev μ-loop : tie.MeasureT-loop
 μ-loop flags₀ keys n direction counts flags = 64 - count (flagged flags) 64
 
-loop-holds : tie.Need-loop-holds Inv-loop μ-loop
-loop-holds c = (c .pre .1, λ counting s cs held. part-grown-none held)
-
 returns : tie.Need-returns Inv-loop μ-loop
 returns c = λ counting s cs held.
     let p = c .before in
     let l = p .before .before in
     let b = l .loop .inv .1 counting s cs held in
-    part-grown-end counting (l .before .pre .0) b (p .pass .ensures counting (b .held) cs (b .flags)) (c .if1 .taken)
+    part-grown-end counting (l .before .pre .0) b (p .pass .ensures counting _ cs (b .flags)) (c .if1 .taken)
 
 loop-less : tie.Need-loop-less Inv-loop μ-loop
 loop-less c =
-    let p = c .before in
-    let l = p .before .before in
-    let r = p .pass .ensures (flagged (l .before .args .counts .now)) (flagged (l .loop .flags)) (λ X l. refl)
-    (l .loop .inv .0) in
+    let r = c .before .pass .ensures _ _ (λ X l. refl) (c .before .before .before .loop .inv .0) in
     omega (arith, r .counted, raised-few r, flags-count (r .flags))
 
 loop-again : tie.Need-loop-again Inv-loop μ-loop
 loop-again c =
     let p = c .before in
-    let l = p .before .before in
-    let r = p .pass .ensures (flagged (l .before .args .counts .now)) (flagged (l .loop .flags)) (λ X l. refl)
-    (l .loop .inv .0) in (
-      flags-bits (r .flags),
+    let l = p .before .before in (
+      flags-bits (p .pass .ensures _ _ (λ X l. refl) (l .loop .inv .0) .flags),
       λ counting s cs held.
           let b = l .loop .inv .1 counting s cs held in
-          part-grown-more counting (l .before .pre .0) b (p .pass .ensures counting (b .held) cs (b .flags)),
+          part-grown-more counting (l .before .pre .0) b (p .pass .ensures counting _ cs (b .flags)),
     )
 
-pass-requires : tie.Need-pass-requires Inv-loop μ-loop
-pass-requires c κs =
-    let l = c .before in
-    (l .before .pre .0, l .loop .inv .0)
-
 pub grow-spec : {M : Type 1} → statement M
-grow-spec = tie.close (tie.spec Inv-loop μ-loop loop-holds pass-requires returns loop-less loop-again)
+grow-spec = tie.close (tie.spec Inv-loop μ-loop (λ c. (c .pre .1, λ counting s cs held. part-grown-none held))
+    (λ c κs. (c .before .before .pre .0, c .before .loop .inv .0)) returns loop-less loop-again)

@@ -1,16 +1,10 @@
 -- `verdicts::passes::pass` meets its contract: the rules of the first k keys have added what they add. Assumes
 -- nothing.
-use mathlib.Core.Path.{_≡_, refl}
-use mathlib.Core.Bool.{Bool}
-use Prim.Native.Nat.{ℕ, _≤_, _-_}
-use native.Mathlib.Omega.{arith}
-use borrow.Author.Needs.{needs}
-use lib.ListN.{getD}
-use Rattle.verdicts.specs.Inside.Flags.{Flags, Holds, flagged, Raised}
+use Rattle.grammar.proofs.Basics.{_≡_, refl, Bool, ℕ, _≤_, _-_, add-one, arith, getD, needs}
+use Rattle.verdicts.specs.Inside.Flags.{Flags, Holds, Raised}
 use Rattle.verdicts.specs.Inside.Passes.{byKeys}
 use Rattle.verdicts.proofs.KeyRules.{read-rule, read-fits}
-use Rattle.verdicts.proofs.Raising.{flags-bits, raised-none, raised-few}
-use Rattle.verdicts.proofs.Adding.{pass-more}
+use Rattle.verdicts.proofs.Raising.{flags-bits, raised-none, raised-then, raised-few}
 use Rattle.verdicts.proofs.passes.pass.Statement.{statement}
 use Rattle.verdicts.proofs.passes.pass.Tie as tie
 
@@ -33,34 +27,28 @@ add-requires c κs =
     let t = u .before .before in
     let l = t .before in
     let s = l .before in (
-      read-fits (getD (s .args .keys .now) (l .loop .k) 0) (u .unpack .ensures)
-          (s .pre .0 .fit (l .loop .k) (t .loop-test .taken)),
-      flags-bits (l .loop .inv .1 (flagged (s .args .counts .now)) (flagged (s .args .flags .now)) (λ X l. refl)
-          (s .pre .1) .flags),
+      read-fits _ (u .unpack .ensures) (s .pre .0 .fit _ (t .loop-test .taken)),
+      flags-bits (l .loop .inv .1 _ _ (λ X l. refl) (s .pre .1) .flags),
     )
 
 add-new : tie.Need-add-new Inv-loop μ-loop
 add-new c =
     let u = c .before .before in
     let l = u .before .before .before in
-    let s = l .before in
-    let old = l .loop .inv .1 (flagged (s .args .counts .now)) (flagged (s .args .flags .now)) (λ X l. refl)
-    (s .pre .1) in
-    let more = c .add .ensures (flagged (s .args .counts .now)) _ (λ X l. refl) (old .flags) in
-    omega (arith, old .counted, raised-few more)
+    let old = l .loop .inv .1 _ _ (λ X l. refl) (l .before .pre .1) in
+    omega (arith, old .counted, raised-few (c .add .ensures _ _ (λ X l. refl) (old .flags)))
 
 loop-again : tie.Need-loop-again Inv-loop μ-loop
+unfolding byKeys
 loop-again c =
     let u = c .before .before in
-    let l = u .before .before .before in
-    let s = l .before in (
+    let l = u .before .before .before in (
       omega arith,
       λ counting set cs held.
           let old = l .loop .inv .1 counting set cs held in
-          pass-more (s .args .direction) counting set (s .args .keys .now) (l .loop .k)
-          (read-rule (getD (s .args .keys .now) (l .loop .k) 0) (u .unpack .ensures))
-          old
-          (c .add .ensures counting _ cs (old .flags)),
+          let key = getD (l .before .args .keys .now) (l .loop .k) 0 in
+          rw add-one
+          (raised-then old (rw (read-rule key (u .unpack .ensures)) at (c .add .ensures counting _ cs (old .flags)))),
     )
 
 returns : tie.Need-returns Inv-loop μ-loop
@@ -69,18 +57,5 @@ returns c =
     rw e at (c .before .loop .inv .1)
 
 pub pass-spec : {M : Type 1} → statement M
-pass-spec =
-    tie.close
-    (tie.spec
-    Inv-loop
-    μ-loop
-    loop-holds
-    (λ c. omega arith)
-    (λ c. omega arith)
-    (λ c κs. search needs)
-    add-requires
-    add-new
-    (λ c. omega arith)
-    (λ c. omega arith)
-    loop-again
-    returns)
+pass-spec = tie.close (tie.spec Inv-loop μ-loop loop-holds (λ c. omega arith) (λ c. omega arith) (λ c κs. search needs)
+    add-requires add-new (λ c. omega arith) (λ c. omega arith) loop-again returns)

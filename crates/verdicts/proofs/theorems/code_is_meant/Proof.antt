@@ -7,7 +7,7 @@ use Rattle.verdicts.proofs.theorems.code_is_meant.Tie as tie
 
 returns : tie.Need-returns
 unfolding CodeIsMeant
-returns c = λ rules r S X c. code-meant rules S (range-below r) X c
+returns c = λ rules r S. code-meant rules S (range-below r)
 
 pub code-is-meant-spec : {M : Type 1} → statement M
 code-is-meant-spec = tie.close (tie.spec returns)

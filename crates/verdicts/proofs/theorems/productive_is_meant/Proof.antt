@@ -8,7 +8,7 @@ use Rattle.verdicts.proofs.theorems.productive_is_meant.Tie as tie
 
 returns : tie.Need-returns
 unfolding ProductiveIsMeant
-returns c = λ rules r X. productive-is rules (range-below r) X
+returns c = λ rules r. productive-is rules (range-below r)
 
 pub productive-is-meant-spec : {M : Type 1} → statement M
 productive-is-meant-spec = tie.close (tie.spec returns)

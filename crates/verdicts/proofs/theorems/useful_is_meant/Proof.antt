@@ -8,7 +8,7 @@ use Rattle.verdicts.proofs.theorems.useful_is_meant.Tie as tie
 
 returns : tie.Need-returns
 unfolding UsefulIsMeant
-returns c = λ rules r S X. useful-is rules (range-below r) S X
+returns c = λ rules r. useful-is rules (range-below r)
 
 pub useful-is-meant-spec : {M : Type 1} → statement M
 useful-is-meant-spec = tie.close (tie.spec returns)

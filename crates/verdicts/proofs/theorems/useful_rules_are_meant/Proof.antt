@@ -7,7 +7,7 @@ use Rattle.verdicts.proofs.theorems.useful_rules_are_meant.Tie as tie
 
 returns : tie.Need-returns
 unfolding UsefulRulesAreMeant
-returns c = λ rules r S ρ. useful-rules-are rules (range-below r) S ρ
+returns c = λ rules r. useful-rules-are rules (range-below r)
 
 pub useful-rules-are-meant-spec : {M : Type 1} → statement M
 useful-rules-are-meant-spec = tie.close (tie.spec returns)

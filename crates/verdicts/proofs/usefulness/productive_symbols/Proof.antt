@@ -1,19 +1,12 @@
 -- `verdicts::usefulness::productive_symbols` meets its contract: the terminals grow upwards, by all rules. Assumes
 -- nothing.
-use mathlib.Core.Bool.{true}
-use borrow.Author.Needs.{needs}
+use Rattle.grammar.proofs.Basics.{true, needs}
 use Rattle.verdicts.specs.Verdicts.{isTerminal, productive}
 use Rattle.verdicts.specs.Inside.Flags.{rulesOfKeys}
 use Rattle.verdicts.proofs.Tests.{within-all}
-use Rattle.verdicts.proofs.Raising.{flags-test, flags-bits}
-use Rattle.verdicts.proofs.Adding.{ones-held}
+use Rattle.verdicts.proofs.Raising.{flags-test, flags-bits, ones-held}
 use Rattle.verdicts.proofs.usefulness.productive_symbols.Statement.{statement}
 use Rattle.verdicts.proofs.usefulness.productive_symbols.Tie as tie
-
-grow-requires : tie.Need-grow-requires
-grow-requires c κs =
-    let f = c .before .before in
-    (f .before .before .pre, flags-bits (f .flag-terminals .ensures))
 
 returns : tie.Need-returns
 unfolding productive
@@ -24,4 +17,6 @@ returns c =
     (c .grow .ensures (λ _. true) isTerminal (flags-test ones-held) (f .flag-terminals .ensures))
 
 pub productive-symbols-spec : {M : Type 1} → statement M
-productive-symbols-spec = tie.close (tie.spec (λ c κs. search needs) grow-requires returns)
+productive-symbols-spec = tie.close (tie.spec (λ c κs. search needs)
+    (λ c κs. (c .before .before .before .before .pre, flags-bits (c .before .before .flag-terminals .ensures)))
+    returns)

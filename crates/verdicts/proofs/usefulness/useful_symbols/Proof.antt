@@ -1,13 +1,6 @@
 -- `verdicts::usefulness::useful_symbols` meets its contract: the start symbol, if productive, grows downwards. Assumes
 -- nothing.
-use mathlib.Core.Path.{_∙_, ap}
-use mathlib.Core.Bool.{Bool, _&&_}
-use Prim.Native.Nat.{ℕ, _<_}
-use mathlib.Core.List.{List}
-use native.Mathlib.Omega.{arith}
-use borrow.Author.Tests.{eqb-true}
-use lib.Dec.{eqb}
-use Rattle.grammar.proofs.Basics.{cases}
+use Rattle.grammar.proofs.Basics.{_∙_, ap, Bool, _&&_, List, ℕ, _<_, arith, eqb, eqb-true, cases}
 use Rattle.verdicts.specs.Verdicts.{productive, useful}
 use Rattle.verdicts.specs.Inside.Flags.{Flags, flagged, rulesOfKeys}
 use Rattle.verdicts.proofs.Raising.{flags-test, flags-alike, flags-bits}
@@ -15,20 +8,11 @@ use Rattle.verdicts.proofs.usefulness.useful_symbols.Statement.{stateme
 use Rattle.verdicts.proofs.usefulness.useful_symbols.Tie as tie
 
 -- the start symbol alone, where it is in the set
-started :
-    (S : ℕ) {set : ℕ → Bool} {known flags : List ℕ} → S < 64 → Flags set known →
+started : (S : ℕ) {set : ℕ → Bool} {known flags : List ℕ} → S < 64 → Flags set known →
     Flags (λ X. eqb S X && flagged known S) flags →
     Flags (λ X. eqb S X && set X) flags
 started S {set} {known} l k held =
-    flags-alike held
-    (λ X _.
-    cases (eqb S X) (λ e. rw e (flags-test k S l ∙ ap set (eqb-true S X e))) (λ e. rw e))
-
-grow-requires : tie.Need-grow-requires
-grow-requires c κs =
-    let f = c .before in
-    let s = f .before .before .before in
-    (s .pre .0, flags-bits (f .flag-one .ensures))
+    flags-alike held (λ X _. cases (eqb S X) (λ e. rw e (flags-test k S l ∙ ap set (eqb-true S X e))) (λ e. rw e))
 
 returns : tie.Need-returns
 unfolding useful
@@ -40,4 +24,5 @@ returns c =
 
 pub useful-symbols-spec : {M : Type 1} → statement M
 useful-symbols-spec =
-    tie.close (tie.spec (λ c. omega arith) (λ c κs. c .before .before .pre .1 .0) grow-requires returns)
+    tie.close (tie.spec (λ c. omega arith) (λ c κs. c .before .before .pre .1 .0)
+    (λ c κs. (c .before .before .before .before .pre .0, flags-bits (c .before .flag-one .ensures))) returns)
