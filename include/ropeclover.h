@@ -20,6 +20,13 @@
  * The number of states is one more than the largest state in a T, I or F record. A rule's rank is its place, from 0, when the job's rules are
  * sorted by field 1, then by kind letter, then by fields 2 and 3.
  *
+ * LONG BODIES
+ *
+ * Rules with bodies of up to eight symbols are written in a long job, which ropeclover_binarize makes an ordinary job of. Its records have twelve
+ * bytes: those of an ordinary job padded with eight zeros, but that a rule may also be
+ *
+ *   L  A n X1 .. X8 0    rule A -> X1 .. Xn, symbols: n is 0 to 8, and the bytes past Xn are 0
+ *
  * CALLING
  *
  * Every function takes each buffer as a pointer and its length in elements, and writes its answer whole, on every path:
@@ -30,7 +37,7 @@
  *
  * A pointer is never NULL, not even where its length is 0. No two buffers may overlap. The library allocates nothing, keeps nothing between
  * calls, and may be called from any thread on memory that no other thread uses meanwhile. It needs less than 128 KiB of stack. Answers do not
- * depend on the order of the records.
+ * depend on the order of the records, but that a long job is written in the order read.
  *
  * THE LENT MEMORY
  *
@@ -110,14 +117,20 @@ extern "C" {
 #define ROPECLOVER_LISTING_RECORD_BYTES 8
 #define ROPECLOVER_LISTING_BYTES 524288
 
+/* The longest long job, its records of twelve bytes, and the longest body in symbols. */
+#define ROPECLOVER_LONG_JOB_BYTES 49152
+#define ROPECLOVER_LONG_RECORD_BYTES 12
+#define ROPECLOVER_BODY_SYMBOLS 8
+
 /* Room for every function's answer. */
 #define ROPECLOVER_ANSWER_NUMBERS 5
 
 /* The most steps that an advance can make: this many finish any table. */
 #define ROPECLOVER_STEPS 65536
 
-/* Refusals, in the order of the checks; 3 to 7 are tried in that order on each record before the next. With 3 to 7 the place is the record's
- * number, from 0. A refused call leaves all lent memory as it was, but for 13: then table and reasons are as after a success. */
+/* Refusals, in the order of the checks; 3 to 7 are tried in that order on each record before the next. With 3 to 7, 14 and 15 the place is the
+ * record's number, from 0. A refused call leaves all lent memory as it was, but for ropeclover_explain's 13: then table and reasons are as after a
+ * success. ropeclover_binarize has an order of its own. */
 enum ropeclover_refusal {
     ROPECLOVER_ACCEPTED = 0,
     ROPECLOVER_SHORT_BUFFER = 10,       /* the place is 1 for the table, 2 for the reasons, 3 for the codes */
@@ -132,7 +145,10 @@ enum ropeclover_refusal {
     ROPECLOVER_NO_INITIAL = 9,          /* no I record; the place is the number of records. Never by ropeclover_verdicts */
     ROPECLOVER_FORM_TOO_LONG = 12,      /* over ROPECLOVER_FORM_SYMBOLS; the place is the form's length */
     ROPECLOVER_NO_SYMBOL = 11,          /* a byte of the form is over 63; the place is its position */
-    ROPECLOVER_LISTING_TOO_SHORT = 13   /* the place is the number of listing records needed. Only by ropeclover_explain */
+    ROPECLOVER_LISTING_TOO_SHORT = 13,  /* the place is the number of listing records needed. Only by ropeclover_explain */
+    ROPECLOVER_JOB_TOO_SHORT = 13,      /* the place is the number of records needed. Only by ropeclover_binarize, as the next two */
+    ROPECLOVER_TOO_FEW_VARIABLES = 14,  /* the record takes more variables than are free */
+    ROPECLOVER_ILL_PADDED = 15          /* a length over ROPECLOVER_BODY_SYMBOLS, or a padding or closing byte that is not 0 */
 };
 
 /* A table byte. */
@@ -179,6 +195,19 @@ void ropeclover_explain(const uint8_t *job, size_t job_len, uint8_t *table, size
  * useful symbol X derives a string with X and more in it, by rules whose symbols are all useful. */
 void ropeclover_verdicts(const uint8_t *job, size_t job_len, uint8_t *table, size_t table_len, uint8_t *codes, size_t codes_len,
                          uint64_t answer[4]);
+
+/* Writes a long job, the text, as an ordinary job, one record after the other as they were read. A variable that no record names is free: named are
+ * heads, symbols of bodies, the start symbol, and labels in T records. Whatever needs a variable gets the lowest that is still free. In a body of two
+ * or more symbols, from left to right, a terminal that no such body had before gets a variable A, and the record U A is written for it. Then the body
+ * is split into P records, the head's first: A -> X1 T1, T1 -> X2 T2, and so on, and every tail T has a variable of its own. A body of none or one
+ * is an E or a U record. What each named variable derives in terminals is the same before and after, and the job written is accepted by all other
+ * functions. The job past what is written is left as it was; ROPECLOVER_JOB_BYTES are always enough. answer[2]: the number of records written.
+ *
+ * The checks in their order: 2 for a text over ROPECLOVER_LONG_JOB_BYTES, with its length; 1 for a length that is no multiple of 12, with the number
+ * of whole records; 3, 4, 15 and 6 on each record, where 4 tells of the head and the body within the length, at most 8, and a second S or I is 6 in
+ * any case; then again on each record 14, and for each record written for it 5, where it stands already among those written, and 7, where it is the
+ * 257th rule of them; 8 and 9, with the number of records read; 2 for a job written of over ROPECLOVER_JOB_BYTES, with its length; 13. */
+void ropeclover_binarize(const uint8_t *text, size_t text_len, uint8_t *job, size_t job_len, uint64_t answer[3]);
 
 /* The record that the job is refused for by 3 to 7, as a part of the job. answer[0]: its offset in bytes; answer[1]: its length, 4; both are 0
  * where there is none. (This answer has no refusal.) */

@@ -3,7 +3,8 @@ use clap::{Parser, Subcommand, ValueEnum};
 use std::path::PathBuf;
 
 const AFTER_HELP: &str = "\
-FILE holds a job or its text (a job has zero bytes, a text has none); '-' or none is standard input.
+FILE holds a job or its text (a job has zero bytes, a text has none); '-' or none is standard input. A text with L lines, and a long job, are \
+written as an ordinary job first.
 
 Exit status: 0 done; 1 the job is refused, the text is malformed, or two runs differ; 2 bad usage, or input or output failed.
 
@@ -26,6 +27,7 @@ pub enum Command {
     Nightly(Nightly),
     Assemble(Assemble),
     Disassemble(Disassemble),
+    Binarize(Binarize),
     Completions(Completions),
 }
 
@@ -113,18 +115,28 @@ pub struct Nightly {
     pub update: bool,
 }
 
-/// Write the job of a text
+/// Write the job of a text; a long job where a line has the kind L
 #[derive(Debug, clap::Args)]
 pub struct Assemble {
     /// A text with one record a line
     pub file: Option<PathBuf>,
 }
 
-/// Write the text of a job, with numbers
+/// Write the text of a job or a long job, with numbers
 #[derive(Debug, clap::Args)]
 pub struct Disassemble {
-    /// A job
+    /// A job or a long job
     pub file: Option<PathBuf>,
+}
+
+/// Write a text or a long job, whose rules have bodies of up to eight symbols, as an ordinary job
+#[derive(Debug, clap::Args)]
+pub struct Binarize {
+    /// A text or a long job
+    pub file: Option<PathBuf>,
+    /// Write the job's text, with names, instead of its bytes
+    #[arg(long)]
+    pub text: bool,
 }
 
 /// Write the completions of a shell

@@ -43,6 +43,7 @@ impl Failure {
     pub fn in_format(self, format: Format) -> Self {
         match self {
             Failure::Unreadable { unreadable, .. } => Failure::Unreadable { unreadable, format },
+            Failure::Refused { refusal, input, .. } => Failure::Refused { refusal, input, format },
             other => other,
         }
     }

@@ -1,8 +1,10 @@
-//! Input: a job, or a text that is read into one.
+//! Input: a job, or a text that is read into one. A long job is written as an ordinary one.
+use crate::args::Format;
 use crate::failure::{complain, Failure};
 use crate::quote::{self, Mark, Page};
+use ropeclover::long::{self, LongRecord};
 use ropeclover::text::{self, Names, RecordPlace, Text, TextError};
-use ropeclover::JOB_BYTES;
+use ropeclover::{JOB_BYTES, LONG_JOB_BYTES, LONG_RECORD_BYTES};
 use std::fmt;
 use std::fs::File;
 use std::io::{self, IsTerminal, Read};
@@ -13,12 +15,15 @@ const TEXT_BYTES: usize = 1 << 24;
 /// The most malformed lines that are shown.
 const SHOWN_ERRORS: usize = 10;
 
-/// A job, and the text that it was read from.
+/// A job, and what it was read from.
 #[derive(Clone, Debug, Default)]
 pub struct Input {
     /// The file's name, for messages.
     pub name: String,
+    /// The job that was read, or that the long job is written as.
     pub job: Vec<u8>,
+    /// The long job that was read, if it was one.
+    pub long: Option<Vec<u8>>,
     pub names: Names,
     pub source: Option<Source>,
     /// The symbols of the form that was asked for, with names.
@@ -30,6 +35,31 @@ pub struct Input {
 pub struct Source {
     pub text: String,
     pub records: Vec<RecordPlace>,
+}
+
+impl Input {
+    /// Bytes of records that were read; a long job is not written as an ordinary one yet.
+    fn of(name: String, bytes: Vec<u8>, is_long: bool) -> Self {
+        let (job, long) = if is_long { (Vec::new(), Some(bytes)) } else { (bytes, None) };
+        Input { name, job, long, ..Input::default() }
+    }
+
+    /// The bytes of the records that were read.
+    pub fn bytes(&self) -> &[u8] {
+        self.long.as_ref().unwrap_or(&self.job)
+    }
+
+    /// The bytes of a record that was read, by its number.
+    pub fn record_bytes(&self, number: usize) -> Option<&[u8]> {
+        let size = if self.long.is_some() { LONG_RECORD_BYTES } else { 4 };
+        self.bytes().chunks_exact(size).nth(number)
+    }
+
+    /// A record that was read, by its number; a job's record as one of a long job.
+    pub fn record(&self, number: usize) -> Option<LongRecord> {
+        let bytes = self.record_bytes(number)?;
+        bytes.try_into().ok().or_else(|| Some(long::padded(bytes.try_into().ok()?)))
+    }
 }
 
 /// Input that is neither a job nor a text.
@@ -66,7 +96,7 @@ impl fmt::Display for Unreadable {
             }
             Unreadable::NoSpelling { name, record } => write!(
                 f,
-                "{name}: record {record} has no spelling, as its kind byte is no letter or it has fewer than 4 bytes"
+                "{name}: record {record} has no spelling, as its kind byte is no letter, it has too few bytes, or it is not padded by zeros"
             ),
         }
     }
@@ -96,10 +126,20 @@ fn tell_malformed(name: &str, text: &str, errors: &[TextError]) {
     }
 }
 
-/// The bytes of an input: a job's, at most one more than a job may have, or a text's.
+/// The bytes of an input: a job's, at most one more than a job may have, a long job's likewise, or a text's.
 enum Bytes {
     Job(Vec<u8>),
+    Long(Vec<u8>),
     Text(Vec<u8>),
+}
+
+/// How bytes that are no text are read.
+#[derive(Clone, Copy)]
+enum Reading {
+    /// As a job or a long job, whichever they are.
+    Job,
+    /// As a long job.
+    Long,
 }
 
 /// Whether the input is standard input.
@@ -115,28 +155,31 @@ pub fn name(file: Option<&Path>) -> String {
     }
 }
 
-/// Every accepted job has zero bytes, a text has none. So what has one within the length of a job is a job, and no more of it is read.
-fn sort(mut reader: impl Read) -> io::Result<Bytes> {
+/// Every accepted job has zero bytes, a long one too, and a text has none. So what has one within the length of a job is no text, and no more of it
+/// is read than tells that it is too long.
+fn sort(mut reader: impl Read, reading: Reading) -> io::Result<Bytes> {
     let mut bytes = Vec::new();
     reader.by_ref().take(JOB_BYTES as u64 + 1).read_to_end(&mut bytes)?;
-    if bytes.contains(&0) {
-        return Ok(Bytes::Job(bytes));
-    }
+    let (most, sort): (usize, fn(Vec<u8>) -> Bytes) = match reading {
+        _ if !bytes.contains(&0) => (TEXT_BYTES, Bytes::Text),
+        Reading::Job if !long::is_long(&bytes) => (JOB_BYTES, Bytes::Job),
+        _ => (LONG_JOB_BYTES, Bytes::Long),
+    };
     // A terminal that has ended its input must not be asked again.
     if bytes.len() > JOB_BYTES {
-        reader.take((TEXT_BYTES + 1 - bytes.len()) as u64).read_to_end(&mut bytes)?;
+        reader.take((most + 1 - bytes.len()) as u64).read_to_end(&mut bytes)?;
     }
-    Ok(Bytes::Text(bytes))
+    Ok(sort(bytes))
 }
 
-fn read_bytes(file: Option<&Path>) -> Result<Bytes, Failure> {
+fn read_bytes(file: Option<&Path>, reading: Reading) -> Result<Bytes, Failure> {
     let bytes = match file {
-        Some(path) if !is_standard(file) => File::open(path).and_then(sort),
+        Some(path) if !is_standard(file) => File::open(path).and_then(|file| sort(file, reading)),
         _ => {
             if io::stdin().is_terminal() {
                 complain("reading a job or its text from the terminal");
             }
-            sort(io::stdin().lock())
+            sort(io::stdin().lock(), reading)
         }
     };
     bytes.map_err(|error| Failure::File { name: name(file), error })
@@ -159,37 +202,65 @@ fn decode(name: &str, bytes: Vec<u8>) -> Result<String, Unreadable> {
 fn read_text(name: String, bytes: Vec<u8>) -> Result<Input, Unreadable> {
     let text = decode(&name, bytes)?;
     match text::read(&text) {
-        Ok(Text { job, names, records }) => {
-            Ok(Input { name, job, names, source: Some(Source { text, records }), form: Vec::new() })
+        Ok(Text { job, is_long, names, records }) => {
+            Ok(Input { names, source: Some(Source { text, records }), ..Input::of(name, job, is_long) })
         }
         Err(errors) => Err(Unreadable::Malformed { name, text, errors }),
     }
 }
 
-/// Reads a job or its text.
-pub fn read(file: Option<&Path>) -> Result<Input, Failure> {
+/// Reads a job, a long job or a text, and leaves a long job as it is.
+fn read_as(file: Option<&Path>, reading: Reading) -> Result<Input, Failure> {
     let name = name(file);
-    match read_bytes(file)? {
-        Bytes::Job(job) => Ok(Input { name, job, ..Input::default() }),
+    match read_bytes(file, reading)? {
+        Bytes::Job(job) => Ok(Input::of(name, job, false)),
+        Bytes::Long(long) => Ok(Input::of(name, long, true)),
         Bytes::Text(bytes) => Ok(read_text(name, bytes)?),
     }
 }
 
+/// Writes a long job as an ordinary one. A variable that was taken for it has no name, whatever a line of the text says.
+fn binarized(mut input: Input) -> Result<Input, Failure> {
+    let Some(long) = &input.long else { return Ok(input) };
+    match long::binarized(long) {
+        Ok(job) => {
+            input.names.forget_symbols(&long::fresh(long, &job));
+            Ok(Input { job, ..input })
+        }
+        Err(refusal) => Err(Failure::Refused { refusal, input: Box::new(input), format: Format::Text }),
+    }
+}
+
+/// Reads a job or its text.
+pub fn read(file: Option<&Path>) -> Result<Input, Failure> {
+    binarized(read_as(file, Reading::Job)?)
+}
+
+/// Reads a long job, or a text as one.
+pub fn read_long(file: Option<&Path>) -> Result<Input, Failure> {
+    let mut input = read_as(file, Reading::Long)?;
+    if input.long.is_none() {
+        input.long = Some((0..).map_while(|number| input.record(number)).flatten().collect());
+    }
+    binarized(input)
+}
+
 /// Reads a text where a job is no use.
 pub fn read_text_only(file: Option<&Path>) -> Result<Input, Failure> {
-    let input = read(file)?;
+    let input = read_as(file, Reading::Job)?;
     match input.source {
         Some(_) => Ok(input),
         None => Err(Unreadable::JobForText { name: input.name }.into()),
     }
 }
 
-/// Reads a job where a text is no use. Empty input is the empty job.
+/// Reads a job or a long job where a text is no use. Empty input is the empty job.
 pub fn read_job_only(file: Option<&Path>) -> Result<Input, Failure> {
     let name = name(file);
-    match read_bytes(file)? {
-        Bytes::Job(job) => Ok(Input { name, job, ..Input::default() }),
-        Bytes::Text(bytes) if bytes.is_empty() => Ok(Input { name, ..Input::default() }),
+    match read_bytes(file, Reading::Job)? {
+        Bytes::Job(job) => Ok(Input::of(name, job, false)),
+        Bytes::Long(long) => Ok(Input::of(name, long, true)),
+        Bytes::Text(bytes) if bytes.is_empty() => Ok(Input::of(name, bytes, false)),
         Bytes::Text(_) => Err(Unreadable::TextForJob { name }.into()),
     }
 }

@@ -25,6 +25,7 @@ fn run(command: &Command) -> Result<(), Failure> {
         Command::Nightly(options) => nightly::nightly(options),
         Command::Assemble(options) => commands::assemble(options),
         Command::Disassemble(options) => commands::disassemble(options),
+        Command::Binarize(options) => commands::binarize(options),
         Command::Completions(options) => commands::completions(options),
     }
 }

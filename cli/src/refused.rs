@@ -1,28 +1,30 @@
 //! What a refusal means for the input: the lines that it speaks of, and what to mend.
 use crate::input::Input;
 use crate::quote::{self, Mark, Page};
-use ropeclover::format::{bad_field, classes};
-use ropeclover::text::spelling;
+use ropeclover::long::{bad_field, class, production, LongRecord};
+use ropeclover::text::{long_spelling, spelling};
 use ropeclover::{show_refused, Refusal, FORM_SYMBOLS, JOB_BYTES};
 
-/// A record of the job, by its number.
-fn record(job: &[u8], number: usize) -> Option<[u8; 4]> {
-    job.get(4 * number..4 * number + 4)?.try_into().ok()
+/// The words of a record that was read, by its number.
+fn spelled(input: &Input, number: usize) -> Option<Vec<String>> {
+    if input.long.is_some() {
+        return Some(long_spelling(&input.record(number)?, &input.names));
+    }
+    Some(spelling(input.record_bytes(number)?.try_into().ok()?, &input.names).to_vec())
 }
 
 /// The lines of the input's records as they are quoted: the text's own, or a line for each record of a job.
 struct Lines<'a> {
     input: &'a Input,
-    /// The spelled records of a job that has no text.
+    /// The spelled records of an input that has no text.
     spelled: Vec<String>,
 }
 
 impl<'a> Lines<'a> {
     fn new(input: &'a Input) -> Self {
-        let spell = |number| record(&input.job, number).map(|record| spelling(record, &input.names).join(" "));
         let spelled = match input.source {
             Some(_) => Vec::new(),
-            None => (0..input.job.len() / 4).map_while(spell).collect(),
+            None => (0..).map_while(|number| Some(spelled(input, number)?.join(" "))).collect(),
         };
         Lines { input, spelled }
     }
@@ -42,7 +44,7 @@ impl<'a> Lines<'a> {
             return Some((place.line - 1, place.words.iter().map(|word| (word.start, word.end)).collect()));
         }
         let mut at = 0;
-        let words = spelling(record(&self.input.job, number)?, &self.input.names);
+        let words = spelled(self.input, number)?;
         let place = |word: &String| {
             at += word.len() + 1;
             (at - word.len() - 1, at - 1)
@@ -70,53 +72,104 @@ impl<'a> Lines<'a> {
     fn earlier(&self, number: usize, message: &str) -> Option<Mark> {
         self.whole(number).map(|(line, start, end)| Mark::secondary(line, start, end, message))
     }
+
+    /// The bytes of a record that was read.
+    fn bytes(&self, number: u64) -> LongRecord {
+        self.input.record(number as usize).unwrap_or_default()
+    }
+
+    /// The number of the first record that is as it says.
+    fn first(&self, found: impl Fn(&LongRecord) -> bool) -> usize {
+        (0..).map_while(|number| self.input.record(number)).position(|record| found(&record)).unwrap_or(0)
+    }
 }
 
 /// The message at a field outside its class.
-fn field_message(record: [u8; 4], field: usize) -> String {
-    let class = classes(record[0]).map_or("", |classes| classes[field - 1].description());
-    let article = if matches!(record[0], b'E' | b'F' | b'I' | b'S') { "an" } else { "a" };
+fn field_message(record: LongRecord, field: usize) -> String {
+    let class = class(record[0], field).map_or("", |class| class.description());
+    let article = if matches!(record[0], b'E' | b'F' | b'I' | b'L' | b'S') { "an" } else { "a" };
     format!("field {field} of {article} {} record is {class}", record[0] as char)
 }
 
-/// The headline of a refusal and its marks.
-fn marks(refusal: Refusal, lines: &Lines<'_>) -> (String, Vec<Option<Mark>>) {
-    let job = &lines.input.job;
-    let bytes = |number: u64| record(job, number as usize).unwrap_or_default();
-    let first = |found: &dyn Fn(&[u8]) -> bool| job.chunks(4).position(found).unwrap_or(0);
+/// Whether two records are written as the same one.
+fn written_alike(one: &LongRecord, other: &LongRecord) -> bool {
+    one == other || (production(one).is_some() && production(one) == production(other))
+}
+
+/// The headline of a refusal, and its marks where the records they speak of are there.
+type Told = (String, Vec<Option<Mark>>);
+
+/// What is told of too many records. Of bytes, only so much was read as tells it.
+fn too_many_records(lines: &Lines<'_>, of_bytes: &str) -> Told {
+    let Some(source) = &lines.input.source else { return (of_bytes.into(), vec![]) };
+    let headline = format!("the text has {} records; a job has at most 4096", source.records.len());
+    (headline, vec![lines.record(JOB_BYTES / 4, "the 4097th record")])
+}
+
+/// What is told of a long job that cannot be written.
+fn told_of_long(refusal: Refusal, lines: &Lines<'_>) -> Told {
+    let told = |headline: &str, record: u64, message| (headline.into(), vec![lines.record(record as usize, message)]);
+    match refusal {
+        Refusal::WrittenTwice { record } => {
+            let earlier = lines.first(|other| written_alike(other, &lines.bytes(record)));
+            let marks = vec![lines.record(record as usize, "written again here"), lines.earlier(earlier, "the same")];
+            ("a record is written that stands already".into(), marks)
+        }
+        Refusal::TooManyWritten { record } => {
+            told("a job has at most 256 rules", record, "the 257th rule is written for this record")
+        }
+        Refusal::TooFewVariables { record } => {
+            told("too few variables are free", record, "this takes more variables than are left")
+        }
+        Refusal::IllPadded { record } => told(
+            "a length is over 8, or a padding byte is not zero",
+            record,
+            "a length is 0 to 8, and the bytes past the body or the fields are 0",
+        ),
+        Refusal::LongJobTooLong { .. } => {
+            too_many_records(lines, "the long job has more than 49152 bytes, 4096 records")
+        }
+        Refusal::WrittenTooLong { bytes } => {
+            (format!("the job written has {} records; a job has at most 4096", bytes / 4), vec![])
+        }
+        other => (other.to_string(), vec![]),
+    }
+}
+
+/// What is told of a refused job.
+fn told(refusal: Refusal, lines: &Lines<'_>) -> Told {
     match refusal {
         Refusal::UnknownKind { record } => {
-            let message = "the kinds are E, U, P, T, I, F and S".into();
+            let is_long = lines.input.long.is_some();
+            let kinds = if is_long { "E, U, P, T, I, F, S and L" } else { "E, U, P, T, I, F and S" };
+            let message = format!("the kinds are {kinds}");
             ("unknown kind of record".into(), vec![lines.word(record as usize, 0, message)])
         }
         Refusal::FieldOutsideClass { record } => {
-            let field = bad_field(bytes(record)).unwrap_or(1);
-            let message = field_message(bytes(record), field);
+            let bytes = lines.bytes(record);
+            let field = bad_field(&bytes).unwrap_or(1);
+            let message = field_message(bytes, field);
             ("a field is outside its class".into(), vec![lines.word(record as usize, field, message)])
         }
         Refusal::Repeated { record } => {
-            let earlier = first(&|other| other == bytes(record));
+            let earlier = lines.first(|other| *other == lines.bytes(record));
             let marks = vec![lines.record(record as usize, "repeated here"), lines.earlier(earlier, "the same record")];
             ("a record is repeated".into(), marks)
         }
         Refusal::Second { record } => {
-            let kind = bytes(record)[0];
+            let kind = lines.bytes(record)[0];
             let what = if kind == b'S' { "start symbol" } else { "initial state" };
-            let earlier = first(&|other| other[0] == kind);
+            let earlier = lines.first(|other| other[0] == kind);
             let marks = vec![lines.record(record as usize, "the second"), lines.earlier(earlier, "the first")];
             (format!("there is one {what}, so one {} record", kind as char), marks)
         }
         Refusal::TooManyRules { record } => {
             ("a job has at most 256 rules".into(), vec![lines.record(record as usize, "the 257th rule")])
         }
-        Refusal::JobTooLong { bytes } if lines.input.source.is_some() => {
-            let headline = format!("the text has {} records; a job has at most 4096", bytes / 4);
-            (headline, vec![lines.record(JOB_BYTES / 4, "the 4097th record")])
-        }
-        Refusal::JobTooLong { .. } => ("the job has more than 16384 bytes, 4096 records".into(), vec![]),
+        Refusal::JobTooLong { .. } => too_many_records(lines, "the job has more than 16384 bytes, 4096 records"),
         Refusal::NoStart { .. } => ("no S record says which variable is the start symbol".into(), vec![]),
         Refusal::NoInitial { .. } => ("no I record says which state is the initial one".into(), vec![]),
-        other => (other.to_string(), vec![]),
+        other => told_of_long(other, lines),
     }
 }
 
@@ -126,23 +179,29 @@ fn looks_like_text(job: &[u8]) -> bool {
     job.contains(&b'\n') && visible * 4 >= job.len() * 3
 }
 
+/// The bytes of the record that is refused, as a note: of a job the part that the library shows.
+fn bytes_note(refusal: Refusal, input: &Input) -> Option<String> {
+    let number = refusal.record().filter(|_| input.source.is_none())?;
+    let shown = if input.long.is_some() { input.record_bytes(number)? } else { show_refused(&input.job) };
+    let bytes: String = shown.iter().map(|byte| format!(" {byte:02x}")).collect();
+    Some(format!("record {number}, counted from 0: bytes{bytes} at offset {}", shown.len() * number))
+}
+
 /// What else helps to mend a job.
 fn notes(refusal: Refusal, input: &Input) -> Vec<String> {
-    let mut notes = Vec::new();
-    let shown = show_refused(&input.job);
-    if let (None, Some(number), [a, b, c, d]) = (&input.source, refusal.record(), shown) {
-        notes.push(format!(
-            "record {number}, counted from 0: bytes {a:02x} {b:02x} {c:02x} {d:02x} at offset {}",
-            4 * number
-        ));
-    }
+    let mut notes = Vec::from_iter(bytes_note(refusal, input));
     match refusal {
         Refusal::NoStart { .. } => notes.push("a record 'S 0' makes variable 0 the start symbol".into()),
         Refusal::NoInitial { .. } => notes.push("a record 'I 0' makes state 0 the initial one".into()),
+        Refusal::TooFewVariables { .. } => notes.push(
+            "free are the variables of 0 to 31 that no record names; in bodies of two or more symbols each terminal takes one, once, and a body of \
+             n symbols takes n - 2 more"
+                .into(),
+        ),
         _ => {}
     }
-    if input.source.is_none() && looks_like_text(&input.job) {
-        let zero = input.job.iter().position(|byte| *byte == 0).unwrap_or(0);
+    if input.source.is_none() && looks_like_text(input.bytes()) {
+        let zero = input.bytes().iter().position(|byte| *byte == 0).unwrap_or(0);
         notes.push(format!("this looks like text, but byte {zero} is zero, as in a job"));
     }
     notes
@@ -174,7 +233,7 @@ pub fn explain(refusal: Refusal, input: &Input) {
         return quote::show(&page, Some(&code), &refusal.to_string(), &[mark], &[]);
     }
     let lines = Lines::new(input);
-    let (headline, marks) = marks(refusal, &lines);
+    let (headline, marks) = told(refusal, &lines);
     let marks: Vec<Mark> = marks.into_iter().flatten().collect();
     let headline = if marks.is_empty() { format!("{}: {headline}", input.name) } else { headline };
     quote::show(&lines.page(), Some(&code), &headline, &marks, &notes(refusal, input));

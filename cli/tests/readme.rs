@@ -1,7 +1,7 @@
 //! The README's examples print what it says.
 mod support;
 
-use support::{file, run, RADIO_TEXT};
+use support::{file, run, MEMORY_TEXT, RADIO_TEXT};
 
 const README: &str = include_str!("../../README.md");
 
@@ -24,6 +24,15 @@ fn the_tree_of_a_memory_command() {
     let tree = run(&["explain", "--tree", "-", "memory"], RADIO_TEXT.as_bytes()).stdout;
     let first: String = tree.lines().take(7).map(|line| format!("{line}\n")).collect();
     assert!(README.contains(&indented(&first)));
+}
+
+#[test]
+fn the_rules_that_a_long_one_becomes() {
+    let text = run(&["binarize", "--text"], MEMORY_TEXT.as_bytes()).stdout;
+    let rules = text.find("U 2 ").unwrap()..text.find("U digit").unwrap();
+    assert!(README.contains(&indented(&text[rules])));
+    let line = MEMORY_TEXT.lines().find(|line| line.starts_with("L ")).unwrap();
+    assert!(README.contains(&indented(line.split(" #").next().unwrap().trim_end())));
 }
 
 /// Every file that the README names in this repository is there, but for what a build makes.

@@ -30,6 +30,8 @@ fn a_full_device_is_reported() {
         &["explain", "--tree"],
         &["explain", "--dot"],
         &["nightly"],
+        &["binarize"],
+        &["binarize", "--text"],
         &["completions", "bash"],
         &["--help"],
         &["explain", "--help"],
@@ -126,11 +128,18 @@ fn floods_are_not_repeated() {
 
 #[test]
 fn long_input_is_said_to_be_longer_than_a_job() {
-    let path = folder("long").join("zeros");
-    File::create(&path).unwrap().set_len(2 << 30).unwrap();
-    let ran = run(&["report", path.to_str().unwrap()], b"");
-    ran.refuses("refused 2 at 16385\n", &["the job has more than 16384 bytes, 4096 records"]);
-    assert!(!ran.stderr.contains("16385 bytes"));
+    // By the kinds of records 1 and 2 it is a job; zeros there are a long job's.
+    for (start, line, message) in [
+        (&b"S\0\0\0I\0\0\0F"[..], "refused 2 at 16385\n", "the job has more than 16384 bytes, 4096 records"),
+        (b"S", "refused 2 at 49153\n", "the long job has more than 49152 bytes, 4096 records"),
+    ] {
+        let path = folder("long").join("zeros");
+        std::fs::write(&path, start).unwrap();
+        File::options().write(true).open(&path).unwrap().set_len(2 << 30).unwrap();
+        let ran = run(&["report", path.to_str().unwrap()], b"");
+        ran.refuses(line, &[message]);
+        assert!(!ran.stderr.contains("16385 bytes") && !ran.stderr.contains("49153 bytes"));
+    }
     let text = "#\n".repeat(9 << 20);
     run(&["report"], text.as_bytes()).refuses("", &["<stdin>: the text has more than 16777216 bytes"]);
 }

@@ -16,6 +16,7 @@ fn help_and_version() {
         "nightly",
         "assemble",
         "disassemble",
+        "binarize",
         "completions",
         "Exit status: 0",
         "ropeclover-report",
@@ -23,7 +24,7 @@ fn help_and_version() {
     ] {
         assert!(help.stdout.contains(part), "{part}");
     }
-    for command in ["report", "codes", "explain", "nightly", "assemble", "disassemble", "completions"] {
+    for command in ["report", "codes", "explain", "nightly", "assemble", "disassemble", "binarize", "completions"] {
         let help = run(&[command, "--help"], b"");
         assert_eq!(help.status, Some(0));
         assert!(help.stdout.contains(&format!("Usage: ropeclover {command}")), "{}", help.stdout);
@@ -57,6 +58,7 @@ fn bad_words_end_with_status_2() {
         &["nightly", "--jobs", "0"],
         &["nightly", "--seed", "x"],
         &["nightly", "--update"],
+        &["binarize", "a", "b"],
         &["completions", "sh"],
     ] {
         let ran = run(words, b"");
@@ -95,6 +97,8 @@ fn completions_know_the_subcommands() {
     for shell in ["bash", "zsh", "fish"] {
         let ran = run(&["completions", shell], b"");
         assert_eq!(ran.status, Some(0));
-        assert!(ran.stdout.contains("nightly") && ran.stdout.contains("baseline"), "{shell}");
+        for word in ["nightly", "baseline", "binarize"] {
+            assert!(ran.stdout.contains(word), "{word} for {shell}");
+        }
     }
 }

@@ -1,4 +1,4 @@
-//! The library's six functions on lent memory.
+//! The library's seven functions on lent memory.
 use crate::{ffi, Refusal};
 
 /// What [`advance`] answers.
@@ -236,4 +236,33 @@ pub fn show_refused(job: &[u8]) -> &[u8] {
     unsafe { ffi::ropeclover_show(job.as_ptr(), job.len(), answer.as_mut_ptr()) };
     let (at, length) = (answer[0] as usize, answer[1] as usize);
     &job[at..at + length]
+}
+
+/// Writes a [long job](crate::long) as an ordinary one, record by record in the order read, and returns its number of records. What each variable
+/// of the long job derives in terminals is the same before and after. [`long::binarized`](crate::long::binarized) lends a buffer that is long
+/// enough.
+///
+/// The variables of 0 to 31 that no record names are free, and are taken lowest first. In a body of two or more symbols each terminal that stood
+/// in no such body before takes one, left to right, and its U record is written; then a body of n symbols takes n − 2 for its tails, longest
+/// first, and its P records follow, the head's first. A body of none or one is an E or a U record.
+///
+/// ```
+/// use ropeclover::long::{padded, rule};
+/// let long = [padded(*b"S\0\0\0"), rule(0, &[32, 0, 0]).unwrap(), padded(*b"I\0\0\0")].concat();
+/// let mut job = [7; 24];
+/// assert_eq!(ropeclover::binarize(&long, &mut job), Ok(5));
+/// assert_eq!(&job, b"S\0\0\0U\x01\x20\0P\0\x01\x02P\x02\0\0I\0\0\0\x07\x07\x07\x07");
+/// ```
+///
+/// # Errors
+/// Refusals 2 and 1; 3, 4, 15 and 6 on each record; then 14, 5 and 7 on each record; 8, 9, 2 for the job written, and 13 with the records needed.
+/// Nothing is written then.
+pub fn binarize(long: &[u8], job: &mut [u8]) -> Result<usize, Refusal> {
+    let mut answer = [0u64; 3];
+    // SAFETY: as in `start`; three numbers are written.
+    unsafe { ffi::ropeclover_binarize(long.as_ptr(), long.len(), job.as_mut_ptr(), job.len(), answer.as_mut_ptr()) };
+    match answer {
+        [0, _, records] => Ok(records as usize),
+        [number, place, _] => Err(Refusal::of_long(number, place)),
+    }
 }

@@ -51,5 +51,6 @@ extern "C" {
         codes_len: usize,
         answer: *mut u64,
     );
+    pub fn ropeclover_binarize(text: *const u8, text_len: usize, job: *mut u8, job_len: usize, answer: *mut u64);
     pub fn ropeclover_show(job: *const u8, job_len: usize, answer: *mut u64);
 }

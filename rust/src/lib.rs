@@ -49,14 +49,16 @@
 //! assert_eq!((refusal.number(), refusal.place()), (1, 9));
 //! ```
 //!
-//! The six functions [`start`], [`advance`], [`ask`], [`explain`], [`verdicts`] and [`show_refused`] are the library's, on lent memory;
-//! [`Workspace`] owns such memory and knows what it holds. [`text`] reads and writes jobs as text.
+//! The seven functions [`start`], [`advance`], [`ask`], [`explain`], [`verdicts`], [`show_refused`] and [`binarize`] are the library's, on lent
+//! memory; [`Workspace`] owns such memory and knows what it holds. [`text`] reads and writes jobs as text. [`long`] is for rules with more than
+//! two symbols in their bodies.
 #![deny(missing_docs)]
 
 mod calls;
 mod ffi;
 pub mod format;
 pub mod listing;
+pub mod long;
 mod random;
 mod refusal;
 mod saturation;
@@ -65,7 +67,7 @@ mod shuffle;
 pub mod text;
 mod workspace;
 
-pub use calls::{advance, ask, explain, show_refused, start, verdicts, Advanced, Explained, Verdicts};
+pub use calls::{advance, ask, binarize, explain, show_refused, start, verdicts, Advanced, Explained, Verdicts};
 pub use refusal::{Buffer, Refusal};
 pub use saturation::{Finished, Started};
 pub use shuffle::shuffled;
@@ -117,3 +119,26 @@ pub const FORM_SYMBOLS: usize = 64;
 /// assert_eq!(ropeclover::LISTING_BYTES, 8 * ropeclover::TABLE_BYTES);
 /// ```
 pub const LISTING_BYTES: usize = 524_288;
+
+/// The length of a record of a long job in bytes.
+///
+/// ```
+/// assert_eq!(ropeclover::long::rule(0, &[]).unwrap().len(), ropeclover::LONG_RECORD_BYTES);
+/// ```
+pub const LONG_RECORD_BYTES: usize = 12;
+
+/// The longest long job in bytes: 4,096 records.
+///
+/// ```
+/// let refusal = ropeclover::binarize(&[0; ropeclover::LONG_JOB_BYTES + 12], &mut []).unwrap_err();
+/// assert_eq!(refusal.number(), 2);
+/// ```
+pub const LONG_JOB_BYTES: usize = 49_152;
+
+/// The most symbols of a rule's body in a long job.
+///
+/// ```
+/// use ropeclover::{long, BODY_SYMBOLS};
+/// assert!(long::rule(0, &[32; BODY_SYMBOLS]).is_some() && long::rule(0, &[32; BODY_SYMBOLS + 1]).is_none());
+/// ```
+pub const BODY_SYMBOLS: usize = 8;

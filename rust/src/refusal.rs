@@ -1,4 +1,5 @@
 //! Refused calls, in words.
+use crate::LONG_JOB_BYTES;
 use std::fmt;
 
 /// A lent buffer that may be short.
@@ -95,6 +96,46 @@ pub enum Refusal {
         /// The listing records needed, 8 bytes each.
         records: u64,
     },
+    /// 14: a record of a long job takes more variables than are free.
+    TooFewVariables {
+        /// The record's number, from 0.
+        record: u64,
+    },
+    /// 15: in a long job, a length over [`BODY_SYMBOLS`](crate::BODY_SYMBOLS), or a padding or closing byte that is not zero.
+    IllPadded {
+        /// The record's number, from 0.
+        record: u64,
+    },
+    /// 1, of a long job: its length is no multiple of 12.
+    PartialLongRecord {
+        /// The whole records before the bytes left over.
+        records: u64,
+    },
+    /// 2, of a long job: it has over [`LONG_JOB_BYTES`](crate::LONG_JOB_BYTES) bytes.
+    LongJobTooLong {
+        /// Its length.
+        bytes: u64,
+    },
+    /// 2, of a long job: the job written has over [`JOB_BYTES`](crate::JOB_BYTES) bytes.
+    WrittenTooLong {
+        /// The length of the job written.
+        bytes: u64,
+    },
+    /// 5, of a long job: a record is written that stands already among those written.
+    WrittenTwice {
+        /// The number, from 0, of the record that it is written for.
+        record: u64,
+    },
+    /// 7, of a long job: the rule after the last that is taken, the 257th, is written.
+    TooManyWritten {
+        /// The number, from 0, of the record that it is written for.
+        record: u64,
+    },
+    /// 13, of a long job: the job written does not fit into the lent buffer.
+    JobTooShort {
+        /// The records needed, 4 bytes each.
+        records: u64,
+    },
     /// A number that this version of the crate has no name for.
     Other {
         /// The number.
@@ -128,7 +169,31 @@ impl Refusal {
             (11, position) => Refusal::NoSymbol { position },
             (12, symbols) => Refusal::FormTooLong { symbols },
             (13, records) => Refusal::ListingTooShort { records },
+            (14, record) => Refusal::TooFewVariables { record },
+            (15, record) => Refusal::IllPadded { record },
             (number, place) => Refusal::Other { number, place },
+        }
+    }
+
+    /// The refusal of a number and a place by [`binarize`](crate::binarize), which means another thing by some numbers.
+    ///
+    /// ```
+    /// use ropeclover::{Refusal, LONG_JOB_BYTES};
+    /// assert_eq!(Refusal::of_long(1, 3), Refusal::PartialLongRecord { records: 3 });
+    /// assert_eq!(Refusal::of_long(2, 49_164), Refusal::LongJobTooLong { bytes: 49_164 });
+    /// assert_eq!(Refusal::of_long(2, 16_388), Refusal::WrittenTooLong { bytes: 16_388 });
+    /// assert_eq!(Refusal::of_long(8, 0), Refusal::new(8, 0));
+    /// ```
+    pub fn of_long(number: u64, place: u64) -> Self {
+        match (number, place) {
+            (1, records) => Refusal::PartialLongRecord { records },
+            // What is written for an accepted long job is far shorter than the longest one.
+            (2, bytes) if bytes > LONG_JOB_BYTES as u64 => Refusal::LongJobTooLong { bytes },
+            (2, bytes) => Refusal::WrittenTooLong { bytes },
+            (5, record) => Refusal::WrittenTwice { record },
+            (7, record) => Refusal::TooManyWritten { record },
+            (13, records) => Refusal::JobTooShort { records },
+            (number, place) => Refusal::new(number, place),
         }
     }
 
@@ -150,6 +215,13 @@ impl Refusal {
             Refusal::NoSymbol { position } => (11, position),
             Refusal::FormTooLong { symbols } => (12, symbols),
             Refusal::ListingTooShort { records } => (13, records),
+            Refusal::TooFewVariables { record } => (14, record),
+            Refusal::IllPadded { record } => (15, record),
+            Refusal::PartialLongRecord { records } => (1, records),
+            Refusal::LongJobTooLong { bytes } | Refusal::WrittenTooLong { bytes } => (2, bytes),
+            Refusal::WrittenTwice { record } => (5, record),
+            Refusal::TooManyWritten { record } => (7, record),
+            Refusal::JobTooShort { records } => (13, records),
             Refusal::Other { number, place } => (number, place),
         }
     }
@@ -174,7 +246,7 @@ impl Refusal {
         self.parts().1
     }
 
-    /// The record that is refused, by 3 to 7.
+    /// The record that is refused, by 3 to 7, 14 and 15.
     ///
     /// ```
     /// use ropeclover::Refusal;
@@ -183,7 +255,7 @@ impl Refusal {
     /// ```
     pub fn record(self) -> Option<usize> {
         match self.parts() {
-            (3..=7, record) => usize::try_from(record).ok(),
+            (3..=7 | 14 | 15, record) => usize::try_from(record).ok(),
             _ => None,
         }
     }
@@ -197,7 +269,7 @@ impl fmt::Display for Refusal {
             }
             Refusal::JobTooLong { bytes } => write!(f, "the job has {bytes} bytes; at most 16384 are taken"),
             Refusal::UnknownKind { record } => {
-                write!(f, "record {record} has an unknown kind byte; the kinds are E, U, P, T, I, F and S")
+                write!(f, "record {record} has an unknown kind byte; the kinds are E, U, P, T, I, F and S, and L in a long job")
             }
             Refusal::FieldOutsideClass { record } => write!(
                 f,
@@ -223,6 +295,28 @@ impl fmt::Display for Refusal {
             Refusal::FormTooLong { symbols } => write!(f, "the form has {symbols} symbols; at most 64 are taken"),
             Refusal::ListingTooShort { records } => {
                 write!(f, "the lent listing is too short: {records} records of 8 bytes are needed")
+            }
+            Refusal::TooFewVariables { record } => {
+                write!(f, "record {record} takes more variables than are free: those of 0 to 31 that no record names")
+            }
+            Refusal::IllPadded { record } => {
+                write!(f, "record {record} has a length over 8, or a byte past its body or fields that is not 0")
+            }
+            Refusal::PartialLongRecord { records } => {
+                write!(f, "the long job's length is not a multiple of 12: bytes are left over after {records} whole records")
+            }
+            Refusal::LongJobTooLong { bytes } => write!(f, "the long job has {bytes} bytes; at most 49152 are taken"),
+            Refusal::WrittenTooLong { bytes } => {
+                write!(f, "the job written would have {bytes} bytes; at most 16384 are taken")
+            }
+            Refusal::WrittenTwice { record } => {
+                write!(f, "record {record} is written as a record that stands already among those written")
+            }
+            Refusal::TooManyWritten { record } => {
+                write!(f, "the 257th rule is written for record {record}; at most 256 are taken")
+            }
+            Refusal::JobTooShort { records } => {
+                write!(f, "the lent job is too short: {records} records of 4 bytes are needed")
             }
             Refusal::Other { number, place } => write!(f, "refused by {number} at {place}"),
         }

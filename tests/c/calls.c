@@ -153,6 +153,103 @@ static void has_limits(void)
     same("a byte less", answer[0], ROPECLOVER_SHORT_BUFFER);
 }
 
+/* S -> a S b S in one record: 1 and 2 for the terminals, 3 and 4 for the tails. */
+static const uint8_t text[] = {
+    'S', 0, 0, 0, 0, 0, 0, 0, 0, 0, 0, 0, 'L', 0, 4, 32, 0, 33, 0, 0, 0, 0, 0, 0, 'I', 0, 0, 0, 0, 0, 0, 0, 0, 0, 0, 0,
+};
+static const uint8_t split[] = {
+    'S', 0, 0, 0, 'U', 1, 32, 0, 'U', 2, 33, 0, 'P', 0, 1, 3, 'P', 3, 0, 4, 'P', 4, 2, 0, 'I', 0, 0, 0,
+};
+
+enum { GUARD = 64 };
+
+/* Calls ropeclover_binarize on a buffer of a length between guard bytes, and says whether it has what is expected in front of 7s. */
+static void binarizes(const char *what, const uint8_t *input, size_t length, size_t room, const uint64_t expected[3])
+{
+    static uint8_t memory[GUARD + ROPECLOVER_JOB_BYTES + GUARD];
+    uint64_t answer[3] = {9, 9, 9};
+    size_t written = expected[0] == 0 ? sizeof split : 0;
+    memset(memory, 7, sizeof memory);
+    ropeclover_binarize(input, length, memory + GUARD, room, answer);
+    for (int i = 0; i < 3; i++) {
+        same(what, answer[i], expected[i]);
+    }
+    same(what, (uint64_t)memcmp(memory + GUARD, split, written), 0);
+    size_t changed = 0;
+    for (size_t i = 0; i < sizeof memory; i++) {
+        changed += (i < GUARD || i >= GUARD + written) && memory[i] != 7;
+    }
+    same(what, changed, 0);
+}
+
+static void binarizes_long_bodies(void)
+{
+    static const uint64_t accepted[] = {0, 0, 7}, needed[] = {ROPECLOVER_JOB_TOO_SHORT, 7, 0};
+    binarizes("a long body", text, sizeof text, ROPECLOVER_JOB_BYTES, accepted);
+    binarizes("a long body, no byte to spare", text, sizeof text, sizeof split, accepted);
+    binarizes("a byte too few", text, sizeof text, sizeof split - 1, needed);
+    binarizes("no bytes", text, sizeof text, 0, needed);
+    static const uint64_t partial[] = {ROPECLOVER_PARTIAL_RECORD, 2, 0}, none[] = {ROPECLOVER_NO_START, 0, 0};
+    binarizes("35 bytes", text, 35, ROPECLOVER_JOB_BYTES, partial);
+    binarizes("no records", text, 0, ROPECLOVER_JOB_BYTES, none);
+    static const uint64_t no_initial[] = {ROPECLOVER_NO_INITIAL, 2, 0}, no_start[] = {ROPECLOVER_NO_START, 2, 0};
+    binarizes("no I", text, 24, ROPECLOVER_JOB_BYTES, no_initial);
+    binarizes("no S", text + 12, 24, ROPECLOVER_JOB_BYTES, no_start);
+    uint8_t written[ROPECLOVER_JOB_BYTES];
+    uint64_t answer[3];
+    ropeclover_binarize(text, sizeof text, written, sizeof written, answer);
+    ropeclover_start(written, 4 * answer[2], table, sizeof table, reasons, ROPECLOVER_REASONS, answer);
+    same("the job written is accepted", answer[0], 0);
+    same("its states", answer[2], 1);
+}
+
+/* Each refusal of a record in a long job: a byte of the text is another. */
+static void names_refusals_of_long_bodies(void)
+{
+    static const struct {
+        size_t at;
+        uint8_t byte;
+        uint64_t number, place;
+    } cases[] = {
+        {12, 'K', ROPECLOVER_UNKNOWN_KIND, 1},
+        {13, ROPECLOVER_VARIABLES, ROPECLOVER_FIELD_OUTSIDE_CLASS, 1},
+        {18, ROPECLOVER_SYMBOLS, ROPECLOVER_FIELD_OUTSIDE_CLASS, 1},
+        {1, ROPECLOVER_VARIABLES, ROPECLOVER_FIELD_OUTSIDE_CLASS, 0},
+        {14, ROPECLOVER_BODY_SYMBOLS + 1, ROPECLOVER_ILL_PADDED, 1},
+        {14, 2, ROPECLOVER_ILL_PADDED, 1},
+        {19, 1, ROPECLOVER_ILL_PADDED, 1},
+        {23, 1, ROPECLOVER_ILL_PADDED, 1},
+        {28, 1, ROPECLOVER_ILL_PADDED, 2},
+        {24, 'S', ROPECLOVER_SECOND, 2},
+    };
+    for (size_t i = 0; i < sizeof cases / sizeof cases[0]; i++) {
+        uint8_t bad[sizeof text];
+        const uint64_t expected[] = {cases[i].number, cases[i].place, 0};
+        memcpy(bad, text, sizeof text);
+        bad[cases[i].at] = cases[i].byte;
+        binarizes("a refusal in a long job", bad, sizeof bad, ROPECLOVER_JOB_BYTES, expected);
+    }
+}
+
+/* The limits of a long job that the header names. */
+static void has_limits_of_long_bodies(void)
+{
+    static uint8_t records[ROPECLOVER_LONG_JOB_BYTES + ROPECLOVER_LONG_RECORD_BYTES];
+    static const uint64_t too_long[] = {ROPECLOVER_JOB_TOO_LONG, sizeof records, 0};
+    static const uint64_t repeated[] = {ROPECLOVER_REPEATED, 1, 0};
+    static const uint64_t too_few[] = {ROPECLOVER_TOO_FEW_VARIABLES, 5, 0};
+    for (size_t i = 0; i < sizeof records; i += ROPECLOVER_LONG_RECORD_BYTES) {
+        records[i] = 'F';
+    }
+    binarizes("the longest long job", records, ROPECLOVER_LONG_JOB_BYTES, 0, repeated);
+    binarizes("one record more", records, sizeof records, 0, too_long);
+    /* A body of eight variables takes six: 31 are free, which is enough for five such rules. */
+    for (size_t i = 0; i < 6; i++) {
+        memcpy(records + i * ROPECLOVER_LONG_RECORD_BYTES, (const uint8_t[]){'L', 0, ROPECLOVER_BODY_SYMBOLS}, 3);
+    }
+    binarizes("one tail too many", records, 6 * ROPECLOVER_LONG_RECORD_BYTES, ROPECLOVER_JOB_BYTES, too_few);
+}
+
 int main(void)
 {
     saturates();
@@ -161,6 +258,9 @@ int main(void)
     refuses();
     names_refusals();
     has_limits();
+    binarizes_long_bodies();
+    names_refusals_of_long_bodies();
+    has_limits_of_long_bodies();
     printf("%d passed, %d failed\n", passed, failed);
     return failed != 0;
 }

@@ -1,18 +1,29 @@
-//! Jobs from text, and back.
-use crate::args::{Assemble, Disassemble};
+//! Jobs from text, and back; and from long jobs.
+use crate::args::{Assemble, Binarize, Disassemble};
 use crate::failure::Failure;
-use crate::input::{self, Unreadable};
+use crate::input::{self, Input, Unreadable};
 use crate::output;
-use ropeclover::text;
+use ropeclover::text::{self, Names};
+
+/// The text of a job's or a long job's bytes.
+fn printed(input: &Input, job: &[u8], names: &Names) -> Result<Vec<u8>, Failure> {
+    let unreadable = |record| Unreadable::NoSpelling { name: input.name.clone(), record };
+    Ok(text::print(job, names).map_err(unreadable)?.into_bytes())
+}
 
 pub fn assemble(options: &Assemble) -> Result<(), Failure> {
     let input = input::read_text_only(options.file.as_deref())?;
-    output::write(|output| output.write_all(&input.job))
+    output::write(|output| output.write_all(input.bytes()))
 }
 
 pub fn disassemble(options: &Disassemble) -> Result<(), Failure> {
     let input = input::read_job_only(options.file.as_deref())?;
-    let unreadable = |record| Unreadable::NoSpelling { name: input.name.clone(), record };
-    let text = text::disassemble(&input.job).map_err(unreadable)?;
-    output::write(|output| output.write_all(text.as_bytes()))
+    let text = printed(&input, input.bytes(), &Names::default())?;
+    output::write(|output| output.write_all(&text))
+}
+
+pub fn binarize(options: &Binarize) -> Result<(), Failure> {
+    let input = input::read_long(options.file.as_deref())?;
+    let written = if options.text { printed(&input, &input.job, &input.names)? } else { input.job };
+    output::write(|output| output.write_all(&written))
 }

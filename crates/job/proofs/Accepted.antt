@@ -70,6 +70,10 @@ module _ (limits : Limits) where
           within (isRule r) (limits .rules) (countRules seen) (s .few-rules),
         )
 
+    -- and so behind them
+    pub grows-behind : Sound limits seen → fault limits seen r ≡ 0 → Sound limits (seen ++ (r ∷ []))
+    grows-behind s e = sound-permutes limits (List·Permᴰ·append-comm (r ∷ []) seen) (grows s e)
+
   -- the walk from those seen on refuses nothing exactly where all are sound
   unrefused-sound : (seen rs : List JobRecord) → Sound limits seen → firstFault limits seen rs .number ≡ 0
       → Sound limits (seen ++ rs)
@@ -78,7 +82,7 @@ module _ (limits : Limits) where
   unrefused-sound seen (r ∷ rs) s e =
       cases (eqb (fault limits seen r) 0)
       (λ t.
-      let grown = sound-permutes limits (List·Permᴰ·append-comm (r ∷ []) seen) (grows seen r s (eqb-true _ _ t)) in
+      let grown = grows-behind seen r s (eqb-true _ _ t) in
       rw append-assoc at (unrefused-sound (seen ++ (r ∷ [])) rs grown (rw t at e)))
       (λ t. absurd (eqb-false _ _ t (rw t at e)))
 
@@ -91,7 +95,7 @@ module _ (limits : Limits) where
       (sound-unrefused (seen ++ (r ∷ [])) rs (rw append-assoc s))
 
   -- the empty list of records is sound
-  empty-sound : Sound limits []
+  pub empty-sound : Sound limits []
   unfolding countKind countRules NoRepeat
   empty-sound =
       record {
@@ -112,7 +116,7 @@ pub record Passed (limits : Limits) (needed : Bool) (job : List ℕ) : Type 0 wh
   pub initial : needed ≡ true → 0 < countKind byteI (recordsOf job)
 
 -- a check that refuses nothing passes each test that would refuse
-check-passed-test : (b : Bool) (n p : ℕ) (c : Checked) → cond b (refused (suc n) p) c .number ≡ 0
+pub check-passed-test : (b : Bool) (n p : ℕ) (c : Checked) → cond b (refused (suc n) p) c .number ≡ 0
     → (b ≡ false) × (c .number ≡ 0)
 check-passed-test true n p c e = absurd (omega arith)
 check-passed-test false n p c e = (refl, e)

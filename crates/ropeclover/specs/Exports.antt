@@ -8,6 +8,7 @@ use Rattle.saturation.specs.declared.Advanced.{Advanced}
 use Rattle.forms.specs.declared.Asked.{Asked}
 use Rattle.forms.specs.declared.Explained.{Explained}
 use Rattle.verdicts.specs.declared.Verdicts.{Verdicts}
+use Rattle.binarize.specs.declared.Binarized.{Binarized}
 
 abbrev pub startNumbers : Started → List ℕ
 startNumbers a = a .number ∷ a .place ∷ a .states ∷ []
@@ -27,3 +28,6 @@ verdictsNumbers a = a .number ∷ a .place ∷ one-if (a .empty) ∷ one-if (a .
 -- the offset and the length of the part that showing gives
 abbrev pub showNumbers : Part → List ℕ
 showNumbers p = p .offset ∷ p .length ∷ []
+
+abbrev pub binarizeNumbers : Binarized → List ℕ
+binarizeNumbers a = a .number ∷ a .place ∷ a .records ∷ []

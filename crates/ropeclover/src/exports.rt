@@ -10,7 +10,8 @@ ghost use Rattle.saturation.specs.Operations.{startOf, advanceOf};
 ghost use Rattle.forms.specs.Operations.{askOf, explainOf};
 ghost use Rattle.verdicts.specs.Operation.{verdictsOf};
 ghost use Rattle.ropeclover.specs.Exports.{startNumbers, advanceNumbers, askNumbers, explainNumbers};
-ghost use Rattle.ropeclover.specs.Exports.{verdictsNumbers, showNumbers};
+ghost use Rattle.binarize.specs.Operation.{binarizeOf};
+ghost use Rattle.ropeclover.specs.Exports.{verdictsNumbers, showNumbers, binarizeNumbers};
 
 // The numbers of an answer.
 fn write2(answer: &mut [u64], a: u64, b: u64)
@@ -165,4 +166,14 @@ pub extern "C" fn ropeclover_show(job: &[u8], answer: &mut [u64; 2])
 {
     let part = job::show::shown_part(job);
     write2(answer, part.offset as u64, part.length as u64);
+}
+
+#[no_mangle]
+pub extern "C" fn ropeclover_binarize(text: &[u8], job: &mut [u8], answer: &mut [u64; 3])
+    ensures answered { λ _. ⌜ now (answer .exit)
+        ≡ binarizeNumbers (binarizeOf (now (text .entry)) (now (job .entry)) .answer) ⌝ }
+    ensures left { λ _. ⌜ now (job .exit) ≡ binarizeOf (now (text .entry)) (now (job .entry)) .job ⌝ }
+{
+    let r = operations::binarize(text, job);
+    write3(answer, r.number as u64, r.place as u64, r.records as u64);
 }

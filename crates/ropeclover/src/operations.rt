@@ -1,5 +1,6 @@
-// The six operations. No call needs anything of its input: whatever is wrong with it is refused, with a number and a
+// The operations. No call needs anything of its input: whatever is wrong with it is refused, with a number and a
 // place.
+use binarize::Binarized;
 use forms::Asked;
 use forms::Explained;
 use saturation::Advanced;
@@ -11,6 +12,7 @@ ghost use Rattle.saturation.specs.Operations.{startOf, startLeaves, advanceOf, 
 ghost use Rattle.saturation.specs.Table.{lentOf};
 ghost use Rattle.forms.specs.Operations.{askOf, explainOf, explainLeaves};
 ghost use Rattle.verdicts.specs.Operation.{verdictsOf, verdictsLeave};
+ghost use Rattle.binarize.specs.Operation.{binarizeOf, binarizeLeaves};
 
 // Writes the table and the reasons that the job starts from, and answers its number of states.
 pub fn start(job: &[u8], table: &mut [u8], reasons: &mut [u16]) -> Started
@@ -65,4 +67,11 @@ pub fn show_refused(job: &[u8]) -> &[u8]
     ensures shown { λ r. ⌜ now r ≡ shownOf (now (job .entry)) ⌝ }
 {
     job::show::show_refused(job)
+}
+
+// Writes a text whose rules have bodies of up to eight symbols as an ordinary job, and answers its number of records.
+pub fn binarize(text: &[u8], job: &mut [u8]) -> Binarized
+    ensures left { λ r. ⌜ binarizeLeaves r (now (job .exit)) ≡ binarizeOf (now (text .entry)) (now (job .entry)) ⌝ }
+{
+    binarize::operation::binarize(text, job)
 }

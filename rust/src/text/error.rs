@@ -33,6 +33,8 @@ pub enum Problem {
     NoKind(String),
     /// A record has more than three fields.
     TooManyFields(usize),
+    /// The body of an L record has more than eight symbols.
+    BodyTooLong(usize),
     /// A field is no number from 0 to 255 and no name of its class.
     NoField(String, Option<Class>),
     /// A string does not end on its line.
@@ -58,6 +60,7 @@ impl fmt::Display for Problem {
                 write!(f, "'{}' is no kind of record (one letter), nor 'name' or 'state'", plain(word))
             }
             Problem::TooManyFields(fields) => write!(f, "a record has at most three fields, not {fields}"),
+            Problem::BodyTooLong(symbols) => write!(f, "a body has at most eight symbols, not {symbols}"),
             Problem::NoField(word, class) => no_field(f, word, *class),
             Problem::OpenString => write!(f, "this string has no closing quote on its line"),
             Problem::NameWords(words) => write!(f, "a number and a name are due here, not {words} words"),

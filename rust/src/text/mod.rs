@@ -15,6 +15,8 @@
 //! A line `name NUMBER NAME` names a symbol, `state NUMBER NAME` a state. A name is a letter or `_` followed by letters, digits, `_`, `-` and `.`,
 //! or a string in double quotes, in which `\"` and `\\` stand for a quote and a backslash. Name lines may stand anywhere. Symbols and states
 //! have names apart, and a record's field takes the names of its class.
+//!
+//! A line `L HEAD SYMBOL ...` is a rule with a body of up to eight symbols. A text with one spells a [long job](crate::long).
 mod error;
 mod names;
 mod parse;
@@ -24,14 +26,15 @@ mod words;
 pub use error::{Problem, Span, TextError, UnknownSymbol};
 pub use names::Names;
 pub use parse::{read, RecordPlace, Text};
-pub use print::{disassemble, spelling};
+pub use print::{disassemble, long_spelling, print, spelling};
 pub use words::plain;
 
-/// The job that a text spells. The job itself is not checked.
+/// The job that a text spells, or the long job where a line has the kind L. The job itself is not checked.
 ///
 /// ```
 /// use ropeclover::text::assemble;
 /// assert_eq!(assemble("S 0\nP 0 1 1 # a rule\n").unwrap(), b"S\0\0\0P\0\x01\x01");
+/// assert_eq!(assemble("L 0 32 1 33\n").unwrap(), b"L\0\x03\x20\x01\x21\0\0\0\0\0\0");
 /// assert_eq!(assemble("S 0\nP 0 1 x\n").unwrap_err().to_string(), "line 2: 'x' is no number from 0 to 255, and no symbol has this name");
 /// ```
 ///

@@ -97,6 +97,17 @@ impl Names {
         self.states.push((state, name.into()));
     }
 
+    /// Takes away the names of some symbols.
+    ///
+    /// ```
+    /// let mut names = ropeclover::text::read("name 3 memory\nname 4 tone\n").unwrap().names;
+    /// names.forget_symbols(&[3]);
+    /// assert_eq!((names.symbol(3), names.symbol(4)), ("3".into(), "tone".into()));
+    /// ```
+    pub fn forget_symbols(&mut self, symbols: &[u8]) {
+        self.symbols.retain(|(symbol, _)| !symbols.contains(symbol));
+    }
+
     /// The form that words spell, as the command takes it: numbers, names, and strings. A string that is no name itself stands for its
     /// characters, each the name of a symbol in quotes, so the empty string for no symbol. A word that is no name may be one in quotes, as a
     /// shell takes quotes away.

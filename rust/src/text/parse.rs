@@ -2,7 +2,9 @@
 use super::error::{Problem, Span, TextError};
 use super::names::{number, Names};
 use super::words::{is_name, words, Word};
-use crate::format::{classes, Class};
+use crate::format::Class;
+use crate::long::{self, LongRecord};
+use crate::{BODY_SYMBOLS, LONG_RECORD_BYTES};
 
 /// Where a record stands in its text.
 ///
@@ -29,8 +31,10 @@ pub struct RecordPlace {
 /// ```
 #[derive(Clone, Debug, Default, PartialEq, Eq)]
 pub struct Text {
-    /// The job that it spells.
+    /// The job that it spells, in records of four bytes, or of twelve where it is a long one.
     pub job: Vec<u8>,
+    /// Whether it spells a [long job](crate::long), as it has a line of kind L.
+    pub is_long: bool,
     /// The names that it gives.
     pub names: Names,
     /// Where each record of the job stands.
@@ -129,23 +133,32 @@ fn field(word: &str, class: Option<Class>, names: &Names) -> Option<u8> {
     number(word).or_else(|| names.find(word, class?))
 }
 
-/// The four bytes of a record's line.
-fn record(line: &Line<'_>, names: &Names) -> Result<[u8; 4], TextError> {
-    let [kind, fields @ ..] = &line.words[..] else { return Ok([0; 4]) };
-    let letter = match kind.text.as_bytes() {
-        [letter] if letter.is_ascii_alphabetic() => *letter,
-        _ => return Err(line.error(kind, Problem::NoKind(kind.text.into()))),
+/// An error where a record has more fields than its kind may have.
+fn check_number(line: &Line<'_>, kind: u8, fields: &[Word<'_>]) -> Result<(), TextError> {
+    let (most, problem) = match kind {
+        long::KIND => (1 + BODY_SYMBOLS, Problem::BodyTooLong(fields.len().saturating_sub(1))),
+        _ => (3, Problem::TooManyFields(fields.len())),
     };
-    if let Some(fourth) = fields.get(3) {
-        return Err(line.error(fourth, Problem::TooManyFields(fields.len())));
-    }
-    let mut bytes = [letter, 0, 0, 0];
+    fields.get(most).map_or(Ok(()), |extra| Err(line.error(extra, problem)))
+}
+
+/// The record of a line, as one of a long job.
+fn record(line: &Line<'_>, names: &Names) -> Result<LongRecord, TextError> {
+    let (word, fields) = (&line.words[0], &line.words[1..]);
+    let kind = match word.text.as_bytes() {
+        [letter] if letter.is_ascii_alphabetic() => *letter,
+        _ => return Err(line.error(word, Problem::NoKind(word.text.into()))),
+    };
+    check_number(line, kind, fields)?;
+    let mut numbers = [0; 1 + BODY_SYMBOLS];
     for (at, word) in fields.iter().enumerate() {
-        let class = classes(letter).map(|classes| classes[at]);
+        let class = long::class(kind, at + 1);
         let number = field(word.text, class, names);
-        bytes[at + 1] = number.ok_or_else(|| line.error(word, Problem::NoField(word.text.into(), class)))?;
+        numbers[at] = number.ok_or_else(|| line.error(word, Problem::NoField(word.text.into(), class)))?;
     }
-    Ok(bytes)
+    let [a, b, c, ..] = numbers;
+    let rule = long::rule(a, &numbers[1..fields.len().max(1)]);
+    Ok(rule.filter(|_| kind == long::KIND).unwrap_or_else(|| long::padded([kind, a, b, c])))
 }
 
 /// Reads a text.
@@ -161,10 +174,11 @@ pub fn read(text: &str) -> Result<Text, Vec<TextError>> {
     let (lines, mut errors) = lines(text);
     let names = names(&lines, &mut errors);
     let mut found = Text { names, ..Text::default() };
+    let mut records = Vec::new();
     for line in lines.iter().filter(|line| !matches!(line.words[0].text, "name" | "state")) {
         match record(line, &found.names) {
-            Ok(bytes) => {
-                found.job.extend(bytes);
+            Ok(record) => {
+                records.push(record);
                 let words = line.words.iter().map(|word| line.span(word)).collect();
                 found.records.push(RecordPlace { line: line.number, words });
             }
@@ -172,6 +186,9 @@ pub fn read(text: &str) -> Result<Text, Vec<TextError>> {
         }
     }
     if errors.is_empty() {
+        found.is_long = records.iter().any(|record| record[0] == long::KIND);
+        let size = if found.is_long { LONG_RECORD_BYTES } else { 4 };
+        found.job = records.iter().flat_map(|record| &record[..size]).copied().collect();
         return Ok(found);
     }
     errors.sort_by_key(|error| error.span.line);

@@ -2,7 +2,10 @@
 #![allow(dead_code)]
 pub mod cky;
 pub mod jobs;
+pub mod long;
+pub mod long_jobs;
 pub mod machine;
+pub mod productions;
 pub mod verdicts;
 
 #[path = "../../src/random.rs"]

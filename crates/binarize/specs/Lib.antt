@@ -1,0 +1,9 @@
+pub mod Dialect
+pub mod Check
+pub mod Fresh
+pub mod Convert
+pub mod Walk
+pub mod Operation
+pub mod Productions
+pub mod Inside
+pub mod Theorems

@@ -1,0 +1,128 @@
+// The variables that no record names.
+use crate::RECORD_BYTES;
+use crate::dialect;
+use job::FieldClass;
+use job::JobRecord;
+use job::SYMBOLS;
+ghost use mathlib.Core.Path.{_≡_};
+ghost use mathlib.Core.Bool.{false};
+ghost use mathlib.Core.List.{[]};
+ghost use Prim.Native.Nat.{suc, _<_};
+ghost use lib.ListN.{length};
+ghost use Rattle.job.specs.Format.{rowOf, classAt};
+ghost use Rattle.binarize.specs.Dialect.{textRecords};
+ghost use Rattle.binarize.specs.Check.{isUnknown};
+ghost use Rattle.binarize.specs.Fresh.{holdsSymbol, fieldNames, shortNames, holds, names, isNamed};
+ghost use Rattle.binarize.specs.Fresh.{unnamedBelow, freeIn};
+ghost use Rattle.binarize.specs.Inside.Parts.{AllFormed, InFront};
+
+// Whether fields of a class name symbols.
+fn holds_symbol(class: FieldClass) -> bool
+    ensures says { λ ok. ⌜ ok ≡ holdsSymbol class ⌝ }
+{
+    match class {
+        FieldClass::Zero => false,
+        FieldClass::Variable => true,
+        FieldClass::Symbol => true,
+        FieldClass::State => false,
+    }
+}
+
+// Whether a field of a row of the table, that holds a value, names v.
+fn field_names(row: usize, field: usize, value: u8, v: u8) -> bool
+    requires within { ⌜ (row < 7) × (field < 3) ⌝ }
+    ensures says { λ ok. ⌜ ok ≡ fieldNames (classAt row field) value v ⌝ }
+{
+    if holds_symbol(job::format::field_class(row, field)) {
+        return value == v;
+    }
+    false
+}
+
+// Whether a record of a job names v.
+fn short_names(r: JobRecord, v: u8) -> bool
+    requires known { ⌜ rowOf (r .kind) < 7 ⌝ }
+    ensures says { λ ok. ⌜ ok ≡ shortNames r v ⌝ }
+{
+    let row = job::format::kind_row(r.kind);
+    if field_names(row, 0, r.first, v) {
+        return true;
+    }
+    if field_names(row, 1, r.second, v) {
+        return true;
+    }
+    field_names(row, 2, r.third, v)
+}
+
+// Whether v is among some bytes.
+fn holds(bytes: &[u8], v: u8) -> bool
+    ensures says { λ ok. ⌜ ok ≡ holds (now (bytes .entry)) v ⌝ }
+{
+    let mut i = 0;
+    while i < bytes.len() {
+        if bytes[i] == v {
+            return true;
+        }
+        i += 1;
+    }
+    false
+}
+
+// Whether a record names v.
+fn names(bytes: &[u8], v: u8) -> bool
+    requires known { ⌜ (length (now bytes) ≡ 12) × (isUnknown (now bytes) ≡ false) ⌝ }
+    ensures says { λ ok. ⌜ ok ≡ names (now (bytes .entry)) v ⌝ }
+{
+    if dialect::is_long(bytes) {
+        if bytes[1] == v {
+            return true;
+        }
+        return holds(dialect::body(bytes), v);
+    }
+    short_names(dialect::short_record(bytes), v)
+}
+
+// Whether some record names v.
+fn is_named(text: &[u8], v: u8) -> bool
+    requires formed { ⌜ AllFormed (textRecords (now text)) ⌝ }
+    ensures says { λ ok. ⌜ ok ≡ isNamed (textRecords (now (text .entry))) v ⌝ }
+{
+    let count = text.len() / RECORD_BYTES;
+    let mut i = 0;
+    while i < count {
+        if names(dialect::record_at(text, i), v) {
+            return true;
+        }
+        i += 1;
+    }
+    false
+}
+
+// Puts v behind the first n free variables unless some record names it. Returns how many there are then.
+fn add_free(text: &[u8], v: u8, free: &mut [u8; SYMBOLS], n: usize) -> usize
+    requires formed { ⌜ AllFormed (textRecords (now text)) ⌝ }
+    requires front { ⌜ (v < 32) × InFront (now free) n (unnamedBelow (textRecords (now text)) v) ⌝ }
+    ensures front { λ r. ⌜
+        InFront (now (free .exit)) r (unnamedBelow (textRecords (now (text .entry))) (suc v)) ⌝ }
+{
+    if is_named(text, v) {
+        return n;
+    }
+    free[n] = v;
+    n + 1
+}
+
+// Fills in the free variables, lowest first, and zeros past them. Returns how many there are.
+pub fn fill_free(text: &[u8], free: &mut [u8; SYMBOLS]) -> usize
+    requires formed { ⌜ AllFormed (textRecords (now text)) ⌝ }
+    requires zeros { ⌜ InFront (now free) 0 [] ⌝ }
+    ensures front { λ r. ⌜ InFront (now (free .exit)) r (freeIn (textRecords (now (text .entry)))) ⌝ }
+{
+    let mut n = 0;
+    let mut v: u8 = 0;
+    while v < 32 {
+        n = add_free(text, v, free, n);
+        v += 1;
+    }
+    n
+}

@@ -1,0 +1,102 @@
+// Binarize, for every input.
+use crate::Binarized;
+use crate::WRITTEN_BYTES;
+use crate::check;
+use crate::walk;
+use job::Checked;
+ghost use mathlib.Core.Path.{_≡_};
+ghost use mathlib.Core.List.{_++_};
+ghost use Prim.Native.Nat.{_≤_};
+ghost use lib.ListN.{length, drop};
+ghost use Rattle.job.specs.Check.{orElse};
+ghost use Rattle.binarize.specs.Dialect.{textRecords};
+ghost use Rattle.binarize.specs.Check.{missing};
+ghost use Rattle.binarize.specs.Operation.{roomCheck, binarizeOf, binarizeLeaves};
+ghost use Rattle.binarize.specs.Inside.Parts.{refusal};
+
+// 2 for more bytes written than a job may have, then 13 for a buffer that they do not fit into.
+fn room_check(count: usize, room: usize) -> Checked
+    requires few { ⌜ count ≤ 4352 ⌝ }
+    ensures checked { λ c. ⌜ c ≡ roomCheck count room ⌝ }
+{
+    let needed = 4 * count;
+    if job::JOB_BYTES < needed {
+        return Checked {
+            number: 2,
+            place: needed,
+        };
+    }
+    if room < needed {
+        return Checked {
+            number: 13,
+            place: count,
+        };
+    }
+    Checked {
+        number: 0,
+        place: 0,
+    }
+}
+
+// The checks after the second walk: 8, 9, 2 and 13.
+fn last_check(text: &[u8], count: usize, room: usize) -> Checked
+    requires few { ⌜ count ≤ 4352 ⌝ }
+    ensures checked { λ c. ⌜ c ≡ orElse (missing (textRecords (now (text .entry)))) (roomCheck count room) ⌝ }
+{
+    let c = check::missing_kind(text);
+    if c.number != 0 {
+        return c;
+    }
+    room_check(count, room)
+}
+
+// The answer of a refused call.
+fn refusal(number: usize, place: usize) -> Binarized
+    ensures refusal { λ r. ⌜ r ≡ refusal number place ⌝ }
+{
+    Binarized {
+        number,
+        place,
+        records: 0,
+    }
+}
+
+// Copies bytes to the front of a buffer.
+fn copy(bytes: &[u8], out: &mut [u8])
+    requires fits { ⌜ length (now bytes) ≤ length (now out) ⌝ }
+    ensures copied { λ _. ⌜ now (out .exit)
+        ≡ now (bytes .entry) ++ drop (length (now (bytes .entry))) (now (out .entry)) ⌝ }
+{
+    let mut i = 0;
+    while i < bytes.len() {
+        out[i] = bytes[i];
+        i += 1;
+    }
+}
+
+// Writes a text with long bodies as an ordinary job. The records are collected apart, so that a refused call leaves
+// the buffer as it was.
+pub fn binarize(text: &[u8], out: &mut [u8]) -> Binarized
+    ensures left { λ r. ⌜ binarizeLeaves r (now (out .exit)) ≡ binarizeOf (now (text .entry)) (now (out .entry)) ⌝ }
+{
+    let first = check::text_check(text);
+    if first.number != 0 {
+        return refusal(first.number, first.place);
+    }
+    let mut written = [0u8; WRITTEN_BYTES];
+    let second = walk::walk(text, &mut written);
+    if second.number != 0 {
+        return refusal(second.number, second.place);
+    }
+    let last = last_check(text, second.count, out.len());
+    if last.number != 0 {
+        return refusal(last.number, last.place);
+    }
+    let end = 4 * second.count;
+    copy(&written[0..end], out);
+    Binarized {
+        number: 0,
+        place: 0,
+        records: second.count,
+    }
+}

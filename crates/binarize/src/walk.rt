@@ -1,0 +1,153 @@
+// The second walk over a text: it converts each record, and refuses by 14, 5 and 7.
+use crate::Progress;
+use crate::RECORD_BYTES;
+use crate::RuleCount;
+use crate::Step;
+use crate::WalkEnd;
+use crate::convert;
+use crate::dialect;
+use crate::fresh;
+use job::JobRecord;
+use job::SYMBOLS;
+ghost use mathlib.Core.Path.{_≡_};
+ghost use mathlib.Core.Bool.{false};
+ghost use Prim.Native.Nat.{_<_, _≤_, _%_};
+ghost use lib.ListN.{length, take};
+ghost use Rattle.job.specs.Format.{recordsOf};
+ghost use Rattle.job.specs.Check.{countRules};
+ghost use Rattle.binarize.specs.Dialect.{textRecords};
+ghost use Rattle.binarize.specs.Check.{isMisfit};
+ghost use Rattle.binarize.specs.Convert.{convert};
+ghost use Rattle.binarize.specs.Walk.{faultFrom, inTurn, below};
+ghost use Rattle.binarize.specs.Inside.Parts.{AllFormed, conversionOf, progressOf, Underway, Stepped};
+ghost use Rattle.binarize.specs.Inside.Parts.{faultOf, WalkedTo, writtenSize};
+
+// 5 or 7 where the record stands already or is one rule too many, else 0.
+fn written_fault(seen: &[u8], rules: usize, r: JobRecord) -> usize
+    ensures fault { λ n. ⌜ n ≡ faultOf (recordsOf (now (seen .entry))) rules r ⌝ }
+{
+    if job::lookup::has_record(seen, r) {
+        return 5;
+    }
+    if job::format::is_rule(r) {
+        if job::RULES <= rules {
+            return 7;
+        }
+    }
+    0
+}
+
+// 5 and 7 for the records from one on, after the rules of those before it.
+fn check_from(records: &[u8], from: usize, rules: usize) -> RuleCount
+    requires whole { ⌜ (length (now records) % 4 ≡ 0) × (from ≤ length (recordsOf (now records))) ⌝ }
+    requires counted { ⌜ (rules ≡ countRules (take from (recordsOf (now records)))) × (rules ≤ 256) ⌝ }
+    ensures fault { λ r. ⌜ r .number ≡ faultFrom from (recordsOf (now (records .entry))) ⌝ }
+    ensures counted { λ r. ⌜ (r .number ≡ 0 →
+        (r .rules ≡ countRules (recordsOf (now (records .entry)))) × (r .rules ≤ 256)) ⌝ }
+{
+    let count = records.len() / 4;
+    let mut rules = rules;
+    let mut j = from;
+    while j < count {
+        let r = job::format::record_at(records, j);
+        let at = 4 * j;
+        let number = written_fault(&records[0..at], rules, r);
+        if number != 0 {
+            return RuleCount { number, rules };
+        }
+        rules += job::one_if(job::format::is_rule(r)) as usize;
+        j += 1;
+    }
+    RuleCount { number: 0, rules }
+}
+
+// Converts record i.
+fn convert_next(
+    bytes: &[u8],
+    free: &[u8; SYMBOLS],
+    available: usize,
+    symbols: &mut [u8; SYMBOLS],
+    written: &mut [u8],
+    i: usize,
+    s: Step,
+) -> Step
+    requires formed { ⌜ (length (now bytes) ≡ 12) × (isMisfit (now bytes) ≡ false) × (i < 4096) ⌝ }
+    requires underway { ⌜ Underway available i s (now symbols) (now written) ⌝ }
+    ensures stepped { λ r. ⌜ Stepped available i
+        (conversionOf (progressOf s) (now (symbols .entry)) (now (written .entry)))
+        (convert (inTurn (now (free .entry))) (now (bytes .entry))
+        (conversionOf (progressOf s) (now (symbols .entry)) (now (written .entry))))
+        r (now (symbols .exit)) (now (written .exit)) ⌝ }
+    ensures sizes { λ _. ⌜ (length (now (symbols .exit)) ≡ 64) × (length (now (written .exit)) ≡ writtenSize) ⌝ }
+{
+    let before = Progress {
+        taken: s.taken,
+        count: s.count,
+    };
+    let p = convert::convert(bytes, free, symbols, written, before);
+    if available < p.taken {
+        return Step {
+            number: 14,
+            taken: 0,
+            count: 0,
+            rules: 0,
+        };
+    }
+    let end = 4 * p.count;
+    let c = check_from(&written[0..end], s.count, s.rules);
+    Step {
+        number: c.number,
+        taken: p.taken,
+        count: p.count,
+        rules: c.rules,
+    }
+}
+
+// At first each symbol is written for itself.
+fn fill_symbols(symbols: &mut [u8; SYMBOLS])
+    requires size { ⌜ length (now symbols) ≡ 64 ⌝ }
+    ensures symbols { λ _. ⌜ now (symbols .exit) ≡ below 64 ⌝ }
+{
+    let mut x: u8 = 0;
+    while x < 64 {
+        symbols[x as usize] = x;
+        x += 1;
+    }
+}
+
+// The whole walk. What is written until a refusal stays in the buffer.
+pub fn walk(text: &[u8], written: &mut [u8]) -> WalkEnd
+    requires formed { ⌜ (length (now text) ≤ 49152) × AllFormed (textRecords (now text))
+        × (length (now written) ≡ writtenSize) ⌝ }
+    ensures walked { λ w. ⌜ WalkedTo (textRecords (now (text .entry))) w (now (written .exit)) ⌝ }
+{
+    let mut free = [0u8; SYMBOLS];
+    let available = fresh::fill_free(text, &mut free);
+    let mut symbols = [0u8; SYMBOLS];
+    fill_symbols(&mut symbols);
+    let mut s = Step {
+        number: 0,
+        taken: 0,
+        count: 0,
+        rules: 0,
+    };
+    let count = text.len() / RECORD_BYTES;
+    let mut i = 0;
+    while i < count {
+        let bytes = dialect::record_at(text, i);
+        s = convert_next(bytes, &free, available, &mut symbols, written, i, s);
+        if s.number != 0 {
+            return WalkEnd {
+                number: s.number,
+                place: i,
+                count: 0,
+            };
+        }
+        i += 1;
+    }
+    WalkEnd {
+        number: 0,
+        place: 0,
+        count: s.count,
+    }
+}
