@@ -1,7 +1,7 @@
 /* Ropeclover: what a context-free grammar can say.
  *
  * A job holds a grammar and a nondeterministic automaton. The library adds to the automaton's transitions those that the rules allow, until
- * nothing changes: where A -> X or A -> B C is a rule and its right side leads from state q to state r, the transition (q, A, r) is added; where
+ * nothing changes: where A -> X or A -> X Y is a rule and its right side leads from state q to state r, the transition (q, A, r) is added; where
  * A -> empty is a rule, (q, A, q). Then a string of symbols, a form, leads from the initial state to a final one if, and only if, it derives a
  * string that the given automaton reads. The library also tells which symbols are useless, whether the language is empty and whether it grows.
  *
@@ -14,7 +14,7 @@
  *
  *   E  A 0 0    rule A -> empty             T  q X r    given transition from state q by symbol X to state r
  *   U  A X 0    rule A -> X, a symbol       I  q 0 0    initial state, exactly one
- *   P  A B C    rule A -> B C, variables    F  q 0 0    final state, any number
+ *   P  A X Y    rule A -> X Y, symbols      F  q 0 0    final state, any number
  *   S  A 0 0    start symbol, exactly one
  *
  * The number of states is one more than the largest state in a T, I or F record. A rule's rank is its place, from 0, when the job's rules are
@@ -196,12 +196,12 @@ void ropeclover_explain(const uint8_t *job, size_t job_len, uint8_t *table, size
 void ropeclover_verdicts(const uint8_t *job, size_t job_len, uint8_t *table, size_t table_len, uint8_t *codes, size_t codes_len,
                          uint64_t answer[4]);
 
-/* Writes a long job, the text, as an ordinary job, one record after the other as they were read. A variable that no record names is free: named are
- * heads, symbols of bodies, the start symbol, and labels in T records. Whatever needs a variable gets the lowest that is still free. In a body of two
- * or more symbols, from left to right, a terminal that no such body had before gets a variable A, and the record U A is written for it. Then the body
- * is split into P records, the head's first: A -> X1 T1, T1 -> X2 T2, and so on, and every tail T has a variable of its own. A body of none or one
- * is an E or a U record. What each named variable derives in terminals is the same before and after, and the job written is accepted by all other
- * functions. The job past what is written is left as it was; ROPECLOVER_JOB_BYTES are always enough. answer[2]: the number of records written.
+/* Writes a long job, the text, as an ordinary job, one record after the other as they were read. A body of none, one or two symbols is an E, a U or a
+ * P record. A longer one is split into P records, the head's first: A -> X1 T1, T1 -> X2 T2, and so on to the last two symbols. Every tail T has a
+ * variable of its own, the lowest that is still free; terminals take none. A variable is free that no record names: named are heads, symbols of
+ * bodies, the start symbol, and labels in T records. What each named variable derives in terminals is the same before and after, and the job written
+ * is accepted by all other functions. The job past what is written is left as it was; ROPECLOVER_JOB_BYTES are always enough. answer[2]: the number
+ * of records written.
  *
  * The checks in their order: 2 for a text over ROPECLOVER_LONG_JOB_BYTES, with its length; 1 for a length that is no multiple of 12, with the number
  * of whole records; 3, 4, 15 and 6 on each record, where 4 tells of the head and the body within the length, at most 8, and a second S or I is 6 in

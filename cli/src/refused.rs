@@ -194,9 +194,7 @@ fn notes(refusal: Refusal, input: &Input) -> Vec<String> {
         Refusal::NoStart { .. } => notes.push("a record 'S 0' makes variable 0 the start symbol".into()),
         Refusal::NoInitial { .. } => notes.push("a record 'I 0' makes state 0 the initial one".into()),
         Refusal::TooFewVariables { .. } => notes.push(
-            "free are the variables of 0 to 31 that no record names; in bodies of two or more symbols each terminal takes one, once, and a body of \
-             n symbols takes n - 2 more"
-                .into(),
+            "free are the variables of 0 to 31 that no record names; a body of n symbols, n over 2, takes n - 2 of them".into(),
         ),
         _ => {}
     }

@@ -103,3 +103,36 @@ fn an_explanation_as_json() {
     let empty = run(&["explain", "--format", "json", "-"], b"S 0\nE 0\nI 0\nF 0\n").stdout;
     assert!(empty.contains("{\"body\":[],\"from\":0,\"middle\":null,\"reason\":\"empty\",\"symbol\":0,\"to\":0}"));
 }
+
+/// A memory command is M and a digit, with the letter in the pair itself, and one is recorded. By hand: two given transitions, digit from 1 to end, and
+/// memory by the one meeting of the two at 1.
+const LETTER: &str = "name 0 memory\nname 1 digit\nname 32 \"M\"\nname 33 \"0-9\"\nstate 0 begin\nstate 2 end\n\
+    S memory\nP memory \"M\" digit\nU digit \"0-9\"\nI begin\nF end\nT begin \"M\" 1\nT 1 \"0-9\" end\n";
+
+#[test]
+fn terminals_in_pairs() {
+    let text = LETTER.as_bytes();
+    let bytes = job(LETTER);
+    assert_eq!(bytes[..8], [b'S', 0, 0, 0, b'P', 0, 32, 1]);
+    run(&["disassemble"], &bytes).prints("S 0 0 0\nP 0 32 1\nU 1 33 0\nI 0 0 0\nF 2 0 0\nT 0 32 1\nT 1 33 2\n");
+    for input in [text, &bytes] {
+        run(&["report"], input).prints("states 3\nexamined 4\njoins 1\nstart yes\nempty no\ngrowing no\n");
+        let told = "alike: states 3, examined 4, joins 1, start yes, empty no, growing no, useless symbols 0\n";
+        run(&["nightly"], input).prints(told);
+    }
+    run(&["codes"], text)
+        .prints("useful: 4\n  0 memory\n  1 digit\n  32 \"M\"\n  33 \"0-9\"\nderives no string: 0\nnever reached: 0\n");
+    let head = "accepted yes\nform memory\nsequence begin end\n";
+    run(&["explain"], text).prints(&format!(
+        "{head}records 4\nbegin \"M\" 1 given\n1 \"0-9\" end given\n1 digit end by digit -> \"0-9\"\n\
+        begin memory end by memory -> \"M\" digit at 1\n"
+    ));
+    run(&["explain", "--tree"], text).prints(&format!(
+        "{head}begin memory end by memory -> \"M\" digit at 1\n  begin \"M\" 1 given\n\
+        \x20 1 digit end by digit -> \"0-9\"\n    1 \"0-9\" end given\n"
+    ));
+    let json = run(&["explain", "--format", "json"], text).stdout;
+    assert!(json.contains("{\"body\":[32,1],\"from\":0,\"middle\":1,\"reason\":\"pair\",\"symbol\":0,\"to\":2}"));
+    let graph = run(&["explain", "--dot"], text).stdout;
+    assert!(graph.contains("\"0 0 2\" -> \"0 32 1\" [label=\"first\"];"), "{graph}");
+}

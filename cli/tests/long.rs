@@ -4,8 +4,8 @@ mod support;
 
 use support::{file, job, run, MEMORY_TEXT, REPORT};
 
-/// The rules of MEMORY_TEXT split by hand: 2 and 3 for the letters, 4 to 6 for the tails.
-const SPLIT: &str = "S 0 0 0\nU 2 32 0\nU 3 33 0\nP 0 2 4\nP 4 1 5\nP 5 3 6\nP 6 1 1\nU 1 34 0\nI 0 0 0\nF 5 0 0\n\
+/// The rules of MEMORY_TEXT split by hand: 2 to 4 for the tails.
+const SPLIT: &str = "S 0 0 0\nP 0 32 2\nP 2 1 3\nP 3 33 4\nP 4 1 1\nU 1 34 0\nI 0 0 0\nF 5 0 0\n\
     T 0 32 1\nT 1 34 2\nT 2 33 3\nT 3 34 4\nT 4 34 5\n";
 
 /// The twelve bytes of a record: those given, then zeros.
@@ -39,7 +39,7 @@ fn a_long_job_is_written_as_an_ordinary_one() {
     let named = run(&["binarize", "--text"], MEMORY_TEXT.as_bytes());
     named.prints(
         "name 0 memory\nname 1 digit\nname 32 \"M\"\nname 33 \"T\"\nname 34 \"0-9\"\nstate 0 begin\nstate 5 end\n\
-        S memory 0 0\nU 2 \"M\" 0\nU 3 \"T\" 0\nP memory 2 4\nP 4 digit 5\nP 5 3 6\nP 6 digit digit\nU digit \"0-9\" 0\n\
+        S memory 0 0\nP memory \"M\" 2\nP 2 digit 3\nP 3 \"T\" 4\nP 4 digit digit\nU digit \"0-9\" 0\n\
         I begin 0 0\nF end 0 0\nT begin \"M\" 1\nT 1 \"0-9\" 2\nT 2 \"T\" 3\nT 3 \"0-9\" 4\nT 4 \"0-9\" end\n",
     );
     assert_eq!(job(&named.stdout), expected);
@@ -57,42 +57,43 @@ fn binarize_takes_any_text_and_no_ordinary_job() {
         .prints("states 1\nexamined 0\njoins 0\nstart no\nempty yes\ngrowing no\n");
 }
 
-const LISTING: &str = "accepted yes\nform memory\nsequence begin end\nrecords 14\n\
-    begin \"M\" 1 given\nbegin 2 1 by 2 -> \"M\"\n1 \"0-9\" 2 given\n1 digit 2 by digit -> \"0-9\"\n\
-    2 \"T\" 3 given\n2 3 3 by 3 -> \"T\"\n3 \"0-9\" 4 given\n3 digit 4 by digit -> \"0-9\"\n\
-    4 \"0-9\" end given\n4 digit end by digit -> \"0-9\"\n3 6 end by 6 -> digit digit at 4\n\
-    2 5 end by 5 -> 3 6 at 3\n1 4 end by 4 -> digit 5 at 2\nbegin memory end by memory -> 2 4 at 1\n";
+/// By hand: the five given transitions, three of digit, and one for each P record, each after the two that meet in it.
+const LISTING: &str = "accepted yes\nform memory\nsequence begin end\nrecords 12\n\
+    begin \"M\" 1 given\n1 \"0-9\" 2 given\n1 digit 2 by digit -> \"0-9\"\n\
+    2 \"T\" 3 given\n3 \"0-9\" 4 given\n3 digit 4 by digit -> \"0-9\"\n\
+    4 \"0-9\" end given\n4 digit end by digit -> \"0-9\"\n3 4 end by 4 -> digit digit at 4\n\
+    2 3 end by 3 -> \"T\" 4 at 3\n1 2 end by 2 -> digit 3 at 2\nbegin memory end by memory -> \"M\" 2 at 1\n";
 
 #[test]
 fn every_subcommand_takes_long_bodies() {
     let (text, bytes) = (MEMORY_TEXT.as_bytes(), job(MEMORY_TEXT));
     for input in [text, &bytes] {
-        run(&["report"], input).prints("states 6\nexamined 14\njoins 4\nstart yes\nempty no\ngrowing no\n");
-        let told = "alike: states 6, examined 14, joins 4, start yes, empty no, growing no, useless symbols 0\n";
+        run(&["report"], input).prints("states 6\nexamined 12\njoins 4\nstart yes\nempty no\ngrowing no\n");
+        let told = "alike: states 6, examined 12, joins 4, start yes, empty no, growing no, useless symbols 0\n";
         run(&["nightly"], input).prints(told);
     }
     run(&["codes"], text).prints(
-        "useful: 10\n  0 memory\n  1 digit\n  2\n  3\n  4\n  5\n  6\n  32 \"M\"\n  33 \"T\"\n  34 \"0-9\"\n\
+        "useful: 8\n  0 memory\n  1 digit\n  2\n  3\n  4\n  32 \"M\"\n  33 \"T\"\n  34 \"0-9\"\n\
         derives no string: 0\nnever reached: 0\n",
     );
     run(&["explain"], text).prints(LISTING);
     run(&["explain", "-", "memory"], text).prints(LISTING);
-    let numbers = run(&["explain", "-", "2", "4"], &bytes);
-    assert!(numbers.stdout.starts_with("accepted yes\nform 2 4\nsequence 0 1 5\nrecords 13\n0 32 1 given\n"));
+    let numbers = run(&["explain", "-", "32", "2"], &bytes);
+    assert!(numbers.stdout.starts_with("accepted yes\nform 32 2\nsequence 0 1 5\nrecords 11\n0 32 1 given\n"));
     let json = run(&["explain", "--format", "json"], text).stdout;
-    assert!(json.contains("{\"body\":[2,4],\"from\":0,\"middle\":1,\"reason\":\"pair\",\"symbol\":0,\"to\":5}"));
+    assert!(json.contains("{\"body\":[32,2],\"from\":0,\"middle\":1,\"reason\":\"pair\",\"symbol\":0,\"to\":5}"));
 }
 
-/// Variable 1 is called old, but no record names it, so it is taken for the letter.
+/// Variable 1 is called old, but no record names it, so it is taken for the tail.
 #[test]
 fn a_variable_that_is_taken_has_no_name() {
     let text = "name 1 old\nname 3 kept\nS 0\nL 0 32 0 0\nI 0\n";
-    run(&["codes"], text.as_bytes()).prints("useful: 0\nderives no string: 2\n  0\n  2\nnever reached: 2\n  1\n  32\n");
+    run(&["codes"], text.as_bytes()).prints("useful: 0\nderives no string: 2\n  0\n  1\nnever reached: 1\n  32\n");
     let unknown = run(&["explain", "-", "old"], text.as_bytes());
     assert_eq!((unknown.status, unknown.stdout.as_str()), (Some(2), ""));
     unknown.says(&["'old' is no symbol"]);
     run(&["explain", "-", "kept"], text.as_bytes()).prints("accepted no\nform kept\nrecords 0\n");
-    assert!(run(&["binarize", "--text"], text.as_bytes()).stdout.starts_with("name 3 kept\nS 0 0 0\nU 1 32 0\n"));
+    assert!(run(&["binarize", "--text"], text.as_bytes()).stdout.starts_with("name 3 kept\nS 0 0 0\nP 0 32 1\n"));
 }
 
 /// The refusal of a text by binarize, by report, and by codes as an object.
@@ -128,13 +129,13 @@ fn refusals_of_the_first_walk_quote_the_line() {
 fn refusals_of_the_second_walk_quote_the_line() {
     let named: String = (0..32).map(|variable| format!("E {variable}\n")).collect();
     refuse(
-        &format!("S 0\nI 0\n{named}L 0 1 32 # one is needed\n"),
+        &format!("S 0\nI 0\n{named}L 0 1 32 2 # one is needed\n"),
         "refused 14 at 34\n",
         &[
             "error[refused 14 at 34]: too few variables are free\n",
             "<stdin>:35:1\n",
-            "35 | L 0 1 32 # one is needed\n   | ^^^^^^^^ this takes more variables than are left\n",
-            "free are the variables of 0 to 31 that no record names",
+            "35 | L 0 1 32 2 # one is needed\n   | ^^^^^^^^^^ this takes more variables than are left\n",
+            "free are the variables of 0 to 31 that no record names; a body of n symbols, n over 2, takes n - 2 of them",
         ],
     );
     refuse(

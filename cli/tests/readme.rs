@@ -29,10 +29,44 @@ fn the_tree_of_a_memory_command() {
 #[test]
 fn the_rules_that_a_long_one_becomes() {
     let text = run(&["binarize", "--text"], MEMORY_TEXT.as_bytes()).stdout;
-    let rules = text.find("U 2 ").unwrap()..text.find("U digit").unwrap();
+    let rules = text.find("P memory ").unwrap()..text.find("U digit").unwrap();
     assert!(README.contains(&indented(&text[rules])));
     let line = MEMORY_TEXT.lines().find(|line| line.starts_with("L ")).unwrap();
     assert!(README.contains(&indented(line.split(" #").next().unwrap().trim_end())));
+}
+
+/// The first line of the codes of a text.
+fn useful(text: &str) -> String {
+    run(&["codes"], text.as_bytes()).stdout.lines().next().unwrap().into()
+}
+
+/// The example has four terminals. With its command letters in the pairs themselves it has three variables fewer.
+#[test]
+fn the_variables_of_the_commands() {
+    assert_eq!(useful(RADIO_TEXT), format!("useful: {}", 11 + 4));
+    let mut text = String::from(RADIO_TEXT);
+    for (name, letter) in [("frequency-letter", "\"F\""), ("tone-letter", "\"T\""), ("memory-letter", "\"M\"")] {
+        text = text.replace(&format!("U {name} {letter}\n"), "");
+        text = text.replace(&format!(" {name} "), &format!(" {letter} "));
+    }
+    assert!(text.contains("P tone \"T\" two-digits\n") && README.contains("`P tone \"T\" two-digits`"));
+    assert_eq!(useful(&text), format!("useful: {}", 8 + 4));
+    assert_eq!(run(&["report"], text.as_bytes()).stdout.lines().nth(3), Some("start yes"));
+}
+
+/// Seven times the example's three commands with letters of their own: all variables are useful, and 21 letters and the digit.
+#[test]
+fn about_twenty_commands_fit() {
+    // 0 is command, 1 digits, 2 digit and 3 two-digits; each three commands have four variables more.
+    let mut text = String::from("S 0\nU 1 2\nP 1 2 1\nP 3 2 2\nU 2 63\n");
+    for group in 0..7 {
+        let [frequency, tone, memory, setting] = [4, 5, 6, 7].map(|variable| variable + 4 * group);
+        let [f, t, m] = [32, 33, 34].map(|letter| letter + 3 * group);
+        text += &format!("U 0 {frequency}\nU 0 {tone}\nU 0 {memory}\nP {frequency} {f} 1\nP {tone} {t} 3\n");
+        text += &format!("P {memory} {m} {setting}\nP {setting} 2 {tone}\n");
+    }
+    assert_eq!(useful(&text), format!("useful: {}", 32 + 21 + 1));
+    assert!(README.contains("So about twenty\nsuch commands fit"));
 }
 
 /// Every file that the README names in this repository is there, but for what a build makes.

@@ -34,9 +34,21 @@ fn a_field_is_quoted_with_its_class() {
     );
     refuse(
         "variable",
-        "P 0 1 32\n",
+        "P 32 1 1\n",
         "refused 4 at 0\n",
-        &["1 | P 0 1 32\n  |       ^^ field 3 of a P record is a variable, 0 to 31"],
+        &["1 | P 32 1 1\n  |   ^^ field 1 of a P record is a variable, 0 to 31"],
+    );
+    refuse(
+        "pair",
+        "name 32 \"M\"\nP 0 \"M\" 63\nP 0 64 \"M\"\n",
+        "refused 4 at 1\n",
+        &["3 | P 0 64 \"M\"\n  |     ^^ field 2 of a P record is a symbol, 0 to 63\n"],
+    );
+    refuse(
+        "pair-second",
+        "P 0 32 255\n",
+        "refused 4 at 0\n",
+        &["1 | P 0 32 255\n  |        ^^^ field 3 of a P record is a symbol, 0 to 63\n"],
     );
     refuse("state", "I 32\n", "refused 4 at 0\n", &["1 | I 32\n  |   ^^ field 1 of an I record is a state, 0 to 31"]);
     refuse(
@@ -121,7 +133,7 @@ fn a_job_shows_the_record_and_its_bytes() {
         "refused 4 at 23\n",
         &[
             "--> <stdin>:23:5\n",
-            "23 | P 1 200 3\n   |     ^^^ field 2 of a P record is a variable, 0 to 31\n",
+            "23 | P 1 200 3\n   |     ^^^ field 2 of a P record is a symbol, 0 to 63\n",
             "record 23, counted from 0: bytes 50 01 c8 03 at offset 92\n",
         ],
     );

@@ -242,16 +242,16 @@ pub fn show_refused(job: &[u8]) -> &[u8] {
 /// of the long job derives in terminals is the same before and after. [`long::binarized`](crate::long::binarized) lends a buffer that is long
 /// enough.
 ///
-/// The variables of 0 to 31 that no record names are free, and are taken lowest first. In a body of two or more symbols each terminal that stood
-/// in no such body before takes one, left to right, and its U record is written; then a body of n symbols takes n − 2 for its tails, longest
-/// first, and its P records follow, the head's first. A body of none or one is an E or a U record.
+/// A body of none, one or two symbols is an E, a U or a P record, and takes no variable. A longer one, of n symbols, is n − 1 P records, the head's
+/// first: each has the next symbol and a variable for the tail that is left, and the last has the two last symbols. The n − 2 variables are the
+/// lowest of 0 to 31 that no record names and no other tail has taken. Terminals stand in P records as they are.
 ///
 /// ```
 /// use ropeclover::long::{padded, rule};
 /// let long = [padded(*b"S\0\0\0"), rule(0, &[32, 0, 0]).unwrap(), padded(*b"I\0\0\0")].concat();
-/// let mut job = [7; 24];
-/// assert_eq!(ropeclover::binarize(&long, &mut job), Ok(5));
-/// assert_eq!(&job, b"S\0\0\0U\x01\x20\0P\0\x01\x02P\x02\0\0I\0\0\0\x07\x07\x07\x07");
+/// let mut job = [7; 20];
+/// assert_eq!(ropeclover::binarize(&long, &mut job), Ok(4));
+/// assert_eq!(&job, b"S\0\0\0P\0\x20\x01P\x01\0\0I\0\0\0\x07\x07\x07\x07");
 /// ```
 ///
 /// # Errors

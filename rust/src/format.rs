@@ -55,6 +55,7 @@ impl Class {
 /// ```
 /// use ropeclover::format::{classes, Class};
 /// assert_eq!(classes(b'U'), Some([Class::Variable, Class::Symbol, Class::Unused]));
+/// assert_eq!(classes(b'P'), Some([Class::Variable, Class::Symbol, Class::Symbol]));
 /// assert_eq!(classes(b'X'), None);
 /// ```
 pub fn classes(kind: u8) -> Option<[Class; 3]> {
@@ -62,7 +63,7 @@ pub fn classes(kind: u8) -> Option<[Class; 3]> {
     match kind {
         b'E' | b'S' => Some([Variable, Unused, Unused]),
         b'U' => Some([Variable, Symbol, Unused]),
-        b'P' => Some([Variable, Variable, Variable]),
+        b'P' => Some([Variable, Symbol, Symbol]),
         b'T' => Some([State, Symbol, State]),
         b'I' | b'F' => Some([State, Unused, Unused]),
         _ => None,
@@ -83,8 +84,8 @@ pub fn start_symbol(job: &[u8]) -> Option<u8> {
 ///
 /// ```
 /// use ropeclover::format::bad_field;
-/// assert_eq!(bad_field([b'P', 0, 40, 50]), Some(2));
-/// assert_eq!(bad_field([b'P', 0, 1, 2]), None);
+/// assert_eq!(bad_field([b'P', 0, 64, 99]), Some(2));
+/// assert_eq!(bad_field([b'P', 0, 32, 1]), None);
 /// ```
 pub fn bad_field(record: [u8; 4]) -> Option<usize> {
     let classes = classes(record[0])?;

@@ -25,7 +25,7 @@ pub enum Reason {
     Empty,
     /// A rule A → X.
     Unit(u8),
-    /// A rule A → B C, which meet in the middle state.
+    /// A rule A → X Y, which meet in the middle state.
     Pair(u8, u8, u8),
 }
 

@@ -10,10 +10,10 @@
 //! let read = text::read("S 0\nL 0 32 1 33 1 1\nU 1 34\nI 0\n").unwrap();
 //! assert!(read.is_long);
 //! let job = long::binarized(&read.job).unwrap();
-//! // 2 and 3 are taken for the two terminals, 4 to 6 for the tails.
+//! // 2, 3 and 4 are taken for the tails.
 //! assert_eq!(
 //!     text::disassemble(&job).unwrap(),
-//!     "S 0 0 0\nU 2 32 0\nU 3 33 0\nP 0 2 4\nP 4 1 5\nP 5 3 6\nP 6 1 1\nU 1 34 0\nI 0 0 0\n"
+//!     "S 0 0 0\nP 0 32 2\nP 2 1 3\nP 3 33 4\nP 4 1 1\nU 1 34 0\nI 0 0 0\n"
 //! );
 //! assert!(!Workspace::new().report(&job).unwrap().empty);
 //! ```
@@ -195,7 +195,7 @@ fn named(long: &[u8]) -> BTreeSet<u8> {
 ///
 /// ```
 /// use ropeclover::{long, text};
-/// let read = text::read("S 1\nL 1 1 1 32\nI 0\n").unwrap();
+/// let read = text::read("S 1\nL 1 1 32 1 33\nI 0\n").unwrap();
 /// let job = long::binarized(&read.job).unwrap();
 /// assert_eq!(long::fresh(&read.job, &job), [0, 2]);
 /// ```

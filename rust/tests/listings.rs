@@ -5,7 +5,8 @@ mod support;
 use ropeclover::listing::{Reason, Record, Transition};
 use ropeclover::{Explanation, Workspace};
 use std::collections::HashMap;
-use support::{jobs, seed};
+use support::jobs::{self, Pairs};
+use support::seed;
 
 /// The given symbols that a transition derives, by the records before it; long ones are cut off.
 fn replay(job: &[u8], records: &[Record]) -> HashMap<Transition, Vec<u8>> {
@@ -54,14 +55,14 @@ fn sequence_is_listed(job: &[u8], explanation: &Explanation) {
     assert!(explanation.steps().iter().all(|step| listed.contains(step)));
 }
 
-#[test]
-fn listings_replay_into_derivations() {
-    let mut random = seed("listings_replay_into_derivations");
+/// Replays the listings of random forms on random jobs, and gives the records of all of them.
+fn listed(test: &str, pairs: Pairs) -> Vec<Record> {
+    let mut random = seed(test);
     let mut workspace = Workspace::new();
-    let mut accepted = 0;
+    let (mut accepted, mut records) = (0, Vec::new());
     for _ in 0..1_500 {
-        let job = jobs::accepted(&mut random);
-        let form = jobs::form(&mut random);
+        let job = jobs::accepted(&mut random, pairs);
+        let form = pairs.form(&mut random, &job);
         let Ok(explanation) = workspace.explain(&job, &form) else { continue };
         let derived = replay(&job, &explanation.records);
         for ((from, _, to), string) in &derived {
@@ -73,8 +74,24 @@ fn listings_replay_into_derivations() {
         sequence_is_listed(&job, &explanation);
         let listed = workspace.table().iter().filter(|byte| **byte == 3).count();
         assert_eq!(listed, explanation.records.len());
+        records.extend(explanation.records);
     }
     assert!(accepted > 50, "too few accepted forms to mean anything");
+    records
+}
+
+#[test]
+fn listings_replay_into_derivations() {
+    listed("listings_replay_into_derivations", Pairs::Variables);
+}
+
+#[test]
+fn listings_by_terminals_in_pairs_replay_into_derivations() {
+    let records = listed("listings_by_terminals_in_pairs_replay_into_derivations", Pairs::Symbols);
+    for places in [(false, true), (true, false), (true, true)] {
+        let by_such = |record: &&Record| matches!(record.reason, Reason::Pair(x, y, _) if (x > 31, y > 31) == places);
+        assert!(records.iter().filter(by_such).count() > 10, "too few pairs with terminals in {places:?}");
+    }
 }
 
 /// A chain of reasons over 20,000 long, in a thread with a small stack. Variable k < 27 walks along the states r of (q, k, r) by k → k 29, and at

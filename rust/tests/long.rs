@@ -3,6 +3,7 @@
 mod support;
 
 use std::collections::BTreeMap;
+use support::jobs::Pairs;
 use support::{long, long_jobs, machine, seed, Guarded, ToldOnFailure};
 
 const FILL: u8 = 0x77;
@@ -27,29 +28,42 @@ fn needed(text: &[u8]) -> usize {
     long::binarize(text, usize::MAX).map_or(20, |records| 4 * records.len())
 }
 
-#[test]
-fn random_long_jobs() {
-    let mut random = seed("random_long_jobs");
+/// Compares random long jobs, among which these refusals are met often.
+fn compare_random(test: &str, pairs: Pairs, refusals: &[u64]) {
+    let mut random = seed(test);
     let mut met: BTreeMap<u64, usize> = BTreeMap::new();
     for _ in 0..20_000 {
         let _told = ToldOnFailure(format!("long job from seed {}", random.seed()));
-        let text =
-            if random.one_in(3) { long_jobs::damaged(&mut random) } else { long_jobs::long_job(&mut random).concat() };
+        let text = match random.below(3) {
+            0 => long_jobs::damaged(&mut random, pairs),
+            _ => long_jobs::long_job(&mut random, pairs).concat(),
+        };
         let needed = needed(&text);
         for length in [0, needed - needed.min(1), needed, needed + 1, 16_384] {
             *met.entry(compare(&text, length)).or_default() += 1;
         }
     }
-    for number in [0, 1, 3, 4, 5, 6, 8, 9, 13, 14, 15] {
-        assert!(met.get(&number).is_some_and(|count| *count >= 100), "{number} is met too seldom: {met:?}");
+    for number in refusals {
+        assert!(met.get(number).is_some_and(|count| *count >= 100), "{number} is met too seldom: {met:?}");
     }
+}
+
+#[test]
+fn random_long_jobs() {
+    compare_random("random_long_jobs", Pairs::Variables, &[0, 1, 3, 4, 5, 6, 8, 9, 13, 15]);
+}
+
+#[test]
+fn random_long_jobs_with_terminals_in_pairs() {
+    let refusals = [0, 1, 3, 4, 5, 6, 8, 9, 13, 14, 15];
+    compare_random("random_long_jobs_with_terminals_in_pairs", Pairs::Symbols, &refusals);
 }
 
 #[test]
 fn every_length_around_the_need() {
     let mut random = seed("every_length_around_the_need");
     for _ in 0..100 {
-        let text = long_jobs::long_job(&mut random).concat();
+        let text = long_jobs::long_job(&mut random, Pairs::Variables).concat();
         for length in 0..needed(&text) + 6 {
             compare(&text, length);
         }
@@ -77,7 +91,8 @@ fn every_byte_of_a_record() {
 #[test]
 fn every_length_of_a_text() {
     let mut random = seed("every_length_of_a_text");
-    let text: Vec<u8> = (0..8).flat_map(|_| long_jobs::long_job(&mut random).concat()).take(240).collect();
+    let texts = (0..8).flat_map(|_| long_jobs::long_job(&mut random, Pairs::Variables).concat());
+    let text: Vec<u8> = texts.take(240).collect();
     for length in 0..=text.len() {
         compare(&text[..length], 16_384);
     }
@@ -89,14 +104,16 @@ fn every_length_of_a_text() {
 /// What is written passes every check of a job, by the machine written apart.
 #[test]
 fn what_is_written_is_accepted() {
-    let mut random = seed("what_is_written_is_accepted");
-    let mut accepted = 0;
-    for _ in 0..5_000 {
-        let text = long_jobs::long_job(&mut random).concat();
-        if let Ok(job) = ropeclover::long::binarized(&text) {
-            assert!(machine::check(&job, true).is_ok());
-            accepted += 1;
+    for pairs in [Pairs::Variables, Pairs::Symbols] {
+        let mut random = seed("what_is_written_is_accepted");
+        let mut accepted = 0;
+        for _ in 0..5_000 {
+            let text = long_jobs::long_job(&mut random, pairs).concat();
+            if let Ok(job) = ropeclover::long::binarized(&text) {
+                assert!(machine::check(&job, true).is_ok());
+                accepted += 1;
+            }
         }
+        assert!(accepted > 1_000, "too few accepted long jobs to mean anything");
     }
-    assert!(accepted > 1_000, "too few accepted long jobs to mean anything");
 }

@@ -4,6 +4,7 @@ mod support;
 
 use ropeclover::{long::binarized, Workspace};
 use support::cky::{self, Grammar};
+use support::jobs::Pairs;
 use support::long_jobs::{padded, rule};
 use support::productions::{derived, sample, Production};
 use support::{seed, Random};
@@ -50,14 +51,15 @@ fn words(random: &mut Random, productions: &[Production], variables: usize) -> V
     words
 }
 
-/// The long job of some productions and a word's chain of states. Rules of up to two symbols are now and then spelled as a job's records.
-fn long_job(random: &mut Random, productions: &[Production], word: &[u8]) -> Vec<u8> {
+/// The long job of some productions and a word's chain of states. Rules of up to two symbols are now and then spelled as a job's records, of which
+/// the pairs hold such symbols.
+fn long_job(random: &mut Random, productions: &[Production], word: &[u8], pairs: Pairs) -> Vec<u8> {
     let mut records = vec![padded(b"S\0"), padded(b"I\0"), padded(&[b'F', word.len() as u8])];
     for (head, body) in productions {
         let short = match body[..] {
             [] => Some(padded(&[b'E', *head])),
             [x] => Some(padded(&[b'U', *head, x])),
-            [x, y] if x < 32 && y < 32 => Some(padded(&[b'P', *head, x, y])),
+            [x, y] if pairs == Pairs::Symbols || (x < 32 && y < 32) => Some(padded(&[b'P', *head, x, y])),
             _ => None,
         };
         records.push(short.filter(|_| random.one_in(2)).unwrap_or_else(|| rule(*head, body)));
@@ -79,7 +81,7 @@ fn grammar(job: &[u8]) -> Grammar {
 
 /// Which variables derive a whole word, before and after: the words by cky, or by the library where bodies may be of any length. Counts the yeses
 /// for words of three letters and more.
-fn compare(test: &str, any: bool, after: impl Fn(&[u8], &[u8], u8) -> bool) {
+fn compare(test: &str, any: bool, pairs: Pairs, after: impl Fn(&[u8], &[u8], u8) -> bool) {
     let mut random = seed(test);
     let (mut yes, mut no) = (0, 0);
     for _ in 0..150 {
@@ -87,7 +89,7 @@ fn compare(test: &str, any: bool, after: impl Fn(&[u8], &[u8], u8) -> bool) {
         let productions = productions(&mut random, variables, any);
         for word in words(&mut random, &productions, variables) {
             // Too few free variables for some: the limits have tests of their own.
-            let Ok(job) = binarized(&long_job(&mut random, &productions, &word)) else { continue };
+            let Ok(job) = binarized(&long_job(&mut random, &productions, &word, pairs)) else { continue };
             let parts = derived(&productions, &word);
             for variable in 0..variables as u8 {
                 let before = parts[usize::from(variable)].contains(&(0, word.len()));
@@ -100,19 +102,33 @@ fn compare(test: &str, any: bool, after: impl Fn(&[u8], &[u8], u8) -> bool) {
     assert!(yes > 500 && no > 500, "too few words to mean anything: {yes} and {no}");
 }
 
+/// The algorithm is for words that are not empty; no variable derives that one where every body has a symbol.
+fn by_cky(job: &[u8], word: &[u8], variable: u8) -> bool {
+    !word.is_empty() && cky::derives(&grammar(job), variable, word)
+}
+
+fn by_saturation(job: &[u8], word: &[u8], variable: u8) -> bool {
+    let mut workspace = Workspace::new();
+    let finished = workspace.start(job).unwrap().finish();
+    finished.holds((0, variable, word.len() as u8))
+}
+
 #[test]
 fn words_by_cky() {
-    compare("words_by_cky", false, |job, word, variable| {
-        // The algorithm is for words that are not empty; no variable derives that one here.
-        !word.is_empty() && cky::derives(&grammar(job), variable, word)
-    });
+    compare("words_by_cky", false, Pairs::Variables, by_cky);
 }
 
 #[test]
 fn words_by_saturation() {
-    compare("words_by_saturation", true, |job, word, variable| {
-        let mut workspace = Workspace::new();
-        let finished = workspace.start(job).unwrap().finish();
-        finished.holds((0, variable, word.len() as u8))
-    });
+    compare("words_by_saturation", true, Pairs::Variables, by_saturation);
+}
+
+#[test]
+fn words_with_terminals_in_pairs_by_cky() {
+    compare("words_with_terminals_in_pairs_by_cky", false, Pairs::Symbols, by_cky);
+}
+
+#[test]
+fn words_with_terminals_in_pairs_by_saturation() {
+    compare("words_with_terminals_in_pairs_by_saturation", true, Pairs::Symbols, by_saturation);
 }

@@ -1,126 +1,18 @@
 //! The library against a machine written apart from it: random lists of calls on garbage tables, with short and long buffers, accepted and
-//! damaged jobs. Answers, tables, reasons, listings and codes are compared byte for byte; buffers stand between guards.
+//! damaged jobs.
 mod support;
 
-use support::{jobs, machine, seed, Guarded, Random, ToldOnFailure};
+use support::jobs::{self, Pairs};
+use support::run::{refusal, Run};
+use support::{machine, seed, ToldOnFailure};
 
-fn refusal<T>(result: Result<T, ropeclover::Refusal>) -> Result<T, machine::Refused> {
-    result.map_err(|r| (r.number(), r.place()))
-}
-
-/// A length now and then a little short, now and then longer than is used.
-fn length(random: &mut Random, full: usize) -> usize {
-    match random.below(16) {
-        0 => full - 1,
-        1 => random.below(full),
-        2 => full + 1 + random.below(50),
-        _ => full,
-    }
-}
-
-fn table(random: &mut Random) -> Vec<u8> {
-    let length = length(random, 65_536);
-    match random.below(6) {
-        0 => vec![255; length],
-        1 => (0..length).map(|_| random.next() as u8).collect(),
-        // Sparse: a few bytes of each kind.
-        2 => (0..length).map(|_| if random.one_in(500) { random.byte_below(6) } else { 0 }).collect(),
-        n => vec![n as u8 - 3; length],
-    }
-}
-
-fn steps(random: &mut Random) -> u64 {
-    match random.below(6) {
-        0 => 0,
-        1 => 1,
-        2 => u64::MAX,
-        _ => random.below(40) as u64,
-    }
-}
-
-struct Run {
-    job: Vec<u8>,
-    table: Guarded<u8>,
-    reasons: Guarded<u16>,
-    expected_table: Vec<u8>,
-    expected_reasons: Vec<u16>,
-}
-
-impl Run {
-    fn new(random: &mut Random) -> Run {
-        let job = if random.one_in(3) { jobs::damaged(random) } else { jobs::accepted(random) };
-        let table = table(random);
-        let length = length(random, 32_768);
-        let reasons: Vec<u16> = (0..length).map(|_| random.next() as u16).collect();
-        Run {
-            job,
-            table: Guarded::new(&table, 0xa5),
-            reasons: Guarded::new(&reasons, 0xa5a5),
-            expected_table: table,
-            expected_reasons: reasons,
-        }
-    }
-
-    fn call(&mut self, random: &mut Random) {
-        let (table, reasons) = (self.table.get_mut(), self.reasons.get_mut());
-        let (t, r) = (&mut self.expected_table[..], &mut self.expected_reasons[..]);
-        match random.below(8) {
-            0 | 1 => assert_eq!(refusal(ropeclover::start(&self.job, table, reasons)), machine::start(&self.job, t, r)),
-            2 | 3 | 4 => {
-                let n = steps(random);
-                let found = refusal(ropeclover::advance(&self.job, table, reasons, n));
-                assert_eq!(found.map(|a| (a.finished, a.steps, a.meetings)), machine::advance(&self.job, t, r, n));
-            }
-            5 => {
-                let form = jobs::form(random);
-                assert_eq!(refusal(ropeclover::ask(&self.job, table, &form)), machine::ask(&self.job, t, &form));
-            }
-            6 => self.explain(random),
-            _ => {
-                let length = *random.pick(&[63, 64, 65]);
-                let mut codes = Guarded::new(&vec![9; length], 0xa5);
-                let mut c = vec![9; length];
-                let found = refusal(ropeclover::verdicts(&self.job, table, codes.get_mut()));
-                assert_eq!(found.map(|v| (v.empty, v.growing)), machine::verdicts(&self.job, t, &mut c));
-                assert_eq!(codes.get(), &c[..], "codes");
-                codes.check();
-            }
-        }
-        self.compare();
-    }
-
-    fn explain(&mut self, random: &mut Random) {
-        let form = jobs::form(random);
-        let length = *random.pick(&[0, 7, 8, 16, 80, 801, 20_000]);
-        let mut listing = Guarded::new(&vec![7; length], 0xa5);
-        let mut l = vec![7; length];
-        let found = refusal(ropeclover::explain(
-            &self.job,
-            self.table.get_mut(),
-            self.reasons.get_mut(),
-            &form,
-            listing.get_mut(),
-        ));
-        let expected = machine::explain(&self.job, &mut self.expected_table, &mut self.expected_reasons, &form, &mut l);
-        assert_eq!(found.map(|e| (e.accepted, e.records as u64)), expected);
-        assert_eq!(listing.get(), &l[..], "listing");
-        listing.check();
-    }
-
-    fn compare(&self) {
-        assert!(self.table.get() == &self.expected_table[..], "tables differ");
-        assert!(self.reasons.get() == &self.expected_reasons[..], "reasons differ");
-        self.table.check();
-        self.reasons.check();
-    }
-}
-
-#[test]
-fn random_lists_of_calls() {
-    let mut random = seed("random_lists_of_calls");
+fn lists_of_calls(test: &str, pairs: Pairs) {
+    let mut random = seed(test);
     for _ in 0..400 {
         let _told = ToldOnFailure(format!("list of calls from seed {}", random.seed()));
-        let mut run = Run::new(&mut random);
+        let damaged = random.one_in(3);
+        let job = if damaged { jobs::damaged(&mut random, pairs) } else { jobs::accepted(&mut random, pairs) };
+        let mut run = Run::new(&mut random, job, pairs);
         for _ in 0..1 + random.below(7) {
             run.call(&mut random);
         }
@@ -128,14 +20,33 @@ fn random_lists_of_calls() {
 }
 
 #[test]
-fn damaged_jobs_are_refused_and_shown_alike() {
-    let mut random = seed("damaged_jobs_are_refused_and_shown_alike");
+fn random_lists_of_calls() {
+    lists_of_calls("random_lists_of_calls", Pairs::Variables);
+}
+
+#[test]
+fn random_lists_of_calls_on_terminals_in_pairs() {
+    lists_of_calls("random_lists_of_calls_on_terminals_in_pairs", Pairs::Symbols);
+}
+
+fn damaged_jobs(test: &str, pairs: Pairs) {
+    let mut random = seed(test);
     let mut workspace = ropeclover::Workspace::new();
     for _ in 0..5_000 {
-        let job = jobs::damaged(&mut random);
+        let job = jobs::damaged(&mut random, pairs);
         let found = refusal(workspace.verdicts(&job).map(|_| ()));
         assert_eq!(found, machine::check(&job, false).map(|_| ()), "{job:?}");
         let part = ropeclover::show_refused(&job);
         assert_eq!(part, &machine::show(&job)[..]);
     }
+}
+
+#[test]
+fn damaged_jobs_are_refused_and_shown_alike() {
+    damaged_jobs("damaged_jobs_are_refused_and_shown_alike", Pairs::Variables);
+}
+
+#[test]
+fn damaged_jobs_with_terminals_in_pairs_are_refused_and_shown_alike() {
+    damaged_jobs("damaged_jobs_with_terminals_in_pairs_are_refused_and_shown_alike", Pairs::Symbols);
 }

@@ -2,23 +2,24 @@
 mod support;
 
 use ropeclover::{advance, ask, explain, start, verdicts};
-use support::{jobs, seed, Random};
+use support::jobs::{self, Pairs};
+use support::{seed, Random};
 
 #[derive(Debug, PartialEq)]
 struct Answers(Vec<String>);
 
-fn run(job: &[u8], mut random: Random, tables: usize, reasons: usize) -> (Answers, Vec<u8>, Vec<u16>) {
-    let mut table = vec![1; tables];
-    let mut reason = vec![77; reasons];
+fn run(job: &[u8], pairs: Pairs, mut random: Random, lengths: (usize, usize)) -> (Answers, Vec<u8>, Vec<u16>) {
+    let mut table = vec![1; lengths.0];
+    let mut reason = vec![77; lengths.1];
     let mut answers = vec![];
     for _ in 0..8 {
         let answer = match random.below(6) {
             0 => format!("{:?}", start(job, &mut table, &mut reason)),
             1 | 2 => format!("{:?}", advance(job, &mut table, &mut reason, random.below(60) as u64)),
-            3 => format!("{:?}", ask(job, &table, &jobs::form(&mut random))),
+            3 => format!("{:?}", ask(job, &table, &pairs.form(&mut random, job))),
             4 => {
                 let mut listing = vec![3; random.below(400)];
-                let explained = explain(job, &mut table, &mut reason, &jobs::form(&mut random), &mut listing);
+                let explained = explain(job, &mut table, &mut reason, &pairs.form(&mut random, job), &mut listing);
                 format!("{explained:?} {listing:?}")
             }
             _ => {
@@ -31,15 +32,25 @@ fn run(job: &[u8], mut random: Random, tables: usize, reasons: usize) -> (Answer
     (Answers(answers), table, reason)
 }
 
-#[test]
-fn plain_and_shuffled_runs_are_alike() {
-    let mut random = seed("plain_and_shuffled_runs_are_alike");
+fn runs_are_alike(test: &str, pairs: Pairs) {
+    let mut random = seed(test);
     for _ in 0..300 {
-        let job = jobs::accepted(&mut random);
+        let job = jobs::accepted(&mut random, pairs);
         let other = jobs::shuffled(&mut random, &job);
         let tables = if random.one_in(12) { 65_535 } else { 65_536 };
         let reasons = if random.one_in(12) { 32_767 } else { 32_768 };
         let calls = random.next();
-        assert_eq!(run(&job, Random::new(calls), tables, reasons), run(&other, Random::new(calls), tables, reasons));
+        let run = |job| run(job, pairs, Random::new(calls), (tables, reasons));
+        assert_eq!(run(&job), run(&other));
     }
+}
+
+#[test]
+fn plain_and_shuffled_runs_are_alike() {
+    runs_are_alike("plain_and_shuffled_runs_are_alike", Pairs::Variables);
+}
+
+#[test]
+fn plain_and_shuffled_runs_on_terminals_in_pairs_are_alike() {
+    runs_are_alike("plain_and_shuffled_runs_on_terminals_in_pairs_are_alike", Pairs::Symbols);
 }

@@ -60,6 +60,45 @@ static void explains(void)
     same("records needed", answer[1], 2);
 }
 
+/* S -> a S | a b, the terminals in the pairs, on the chain a a b: after its three transitions come (1, 0, 3) and (0, 0, 3), each by one
+ * meeting. */
+static const uint8_t pairs[] = {
+    'S', 0, 0, 0, 'P', 0, 32, 0, 'P', 0, 32, 33, 'I', 0, 0, 0, 'F', 3, 0, 0, 'T', 0, 32, 1, 'T', 1, 32, 2, 'T', 2, 33, 3,
+};
+
+static void takes_terminals_in_pairs(void)
+{
+    uint64_t answer[5];
+    uint8_t codes[ROPECLOVER_CODES], listing[40];
+    const uint8_t form[] = {32, 0};
+    const uint8_t expected[] = {
+        0, 32, 1, 'G', 0, 0, 0, 0, 1, 32, 2, 'G', 0, 0, 0, 0, 2, 33, 3, 'G', 0, 0, 0, 0, 1, 0, 3, 'P', 32, 33, 2, 0,
+    };
+    ropeclover_start(pairs, sizeof pairs, table, sizeof table, reasons, ROPECLOVER_REASONS, answer);
+    same("pairs: states", answer[2], 4);
+    ropeclover_advance(pairs, sizeof pairs, table, sizeof table, reasons, ROPECLOVER_REASONS, UINT64_MAX, answer);
+    same("pairs: finished", answer[2], 1);
+    same("pairs: steps", answer[3], 5);
+    same("pairs: meetings", answer[4], 2);
+    /* 0 -> 32 33 has rank 1 and meets at 2, 0 -> 32 0 has rank 0 and meets at 1. */
+    same("pairs: a reason", reasons[1 * 1024 + 3], 1 + 32 + 2);
+    same("pairs: another reason", reasons[3], 1 + 1);
+    ropeclover_ask(pairs, sizeof pairs, table, sizeof table, form, 2, answer);
+    same("pairs: accepted", answer[2], 1);
+    memset(listing, 7, sizeof listing);
+    ropeclover_explain(pairs, sizeof pairs, table, sizeof table, reasons, ROPECLOVER_REASONS, form, 2, listing, sizeof listing, answer);
+    same("pairs: records", answer[3], 4);
+    same("pairs: listing", (uint64_t)memcmp(listing, expected, sizeof expected), 0);
+    same("pairs: past the listing", listing[sizeof expected], 7);
+    ropeclover_verdicts(pairs, sizeof pairs, table, sizeof table, codes, sizeof codes, answer);
+    same("pairs: empty", answer[2], 0);
+    same("pairs: growing", answer[3], 1);
+    same("pairs: code of a terminal", codes[33], ROPECLOVER_USEFUL);
+    same("pairs: code of a terminal that no rule has", codes[34], ROPECLOVER_NOT_NAMED);
+    ropeclover_show(pairs, sizeof pairs, answer);
+    same("pairs: nothing to show", answer[1], 0);
+}
+
 static void judges(void)
 {
     uint64_t answer[4];
@@ -105,6 +144,10 @@ static void names_refusals(void)
         {{'S', ROPECLOVER_VARIABLES, 0, 0}, 4, ROPECLOVER_FIELD_OUTSIDE_CLASS, 0},
         {{'U', 0, ROPECLOVER_SYMBOLS, 0}, 4, ROPECLOVER_FIELD_OUTSIDE_CLASS, 0},
         {{'I', ROPECLOVER_STATES, 0, 0}, 4, ROPECLOVER_FIELD_OUTSIDE_CLASS, 0},
+        {{'P', ROPECLOVER_VARIABLES, 0, 0}, 4, ROPECLOVER_FIELD_OUTSIDE_CLASS, 0},
+        {{'S', 0, 0, 0, 'P', 0, ROPECLOVER_SYMBOLS, 0}, 8, ROPECLOVER_FIELD_OUTSIDE_CLASS, 1},
+        {{'S', 0, 0, 0, 'P', 0, 0, ROPECLOVER_SYMBOLS}, 8, ROPECLOVER_FIELD_OUTSIDE_CLASS, 1},
+        {{'S', 0, 0, 0, 'I', 0, 0, 0, 'P', 0, ROPECLOVER_SYMBOLS - 1, ROPECLOVER_VARIABLES}, 12, ROPECLOVER_ACCEPTED, 0},
         {{'I', 0, 0, 0, 'S', 0, 0, 0, 'S', 0, 0, 0}, 12, ROPECLOVER_REPEATED, 2},
         {{'I', 0, 0, 0, 'S', 0, 0, 0, 'S', 1, 0, 0}, 12, ROPECLOVER_SECOND, 2},
         {{'I', 0, 0, 0}, 4, ROPECLOVER_NO_START, 1},
@@ -153,12 +196,12 @@ static void has_limits(void)
     same("a byte less", answer[0], ROPECLOVER_SHORT_BUFFER);
 }
 
-/* S -> a S b S in one record: 1 and 2 for the terminals, 3 and 4 for the tails. */
+/* S -> a S b S in one record: 1 and 2 for the tails S b S and b S. */
 static const uint8_t text[] = {
     'S', 0, 0, 0, 0, 0, 0, 0, 0, 0, 0, 0, 'L', 0, 4, 32, 0, 33, 0, 0, 0, 0, 0, 0, 'I', 0, 0, 0, 0, 0, 0, 0, 0, 0, 0, 0,
 };
 static const uint8_t split[] = {
-    'S', 0, 0, 0, 'U', 1, 32, 0, 'U', 2, 33, 0, 'P', 0, 1, 3, 'P', 3, 0, 4, 'P', 4, 2, 0, 'I', 0, 0, 0,
+    'S', 0, 0, 0, 'P', 0, 32, 1, 'P', 1, 0, 2, 'P', 2, 33, 0, 'I', 0, 0, 0,
 };
 
 enum { GUARD = 64 };
@@ -184,7 +227,7 @@ static void binarizes(const char *what, const uint8_t *input, size_t length, siz
 
 static void binarizes_long_bodies(void)
 {
-    static const uint64_t accepted[] = {0, 0, 7}, needed[] = {ROPECLOVER_JOB_TOO_SHORT, 7, 0};
+    static const uint64_t accepted[] = {0, 0, 5}, needed[] = {ROPECLOVER_JOB_TOO_SHORT, 5, 0};
     binarizes("a long body", text, sizeof text, ROPECLOVER_JOB_BYTES, accepted);
     binarizes("a long body, no byte to spare", text, sizeof text, sizeof split, accepted);
     binarizes("a byte too few", text, sizeof text, sizeof split - 1, needed);
@@ -254,6 +297,7 @@ int main(void)
 {
     saturates();
     explains();
+    takes_terminals_in_pairs();
     judges();
     refuses();
     names_refusals();

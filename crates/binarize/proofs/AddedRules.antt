@@ -8,7 +8,7 @@ use Rattle.job.specs.Check.{countRules}
 use Rattle.binarize.specs.Dialect.{isLong, headOf, bodyOf, shortOf}
 use Rattle.binarize.specs.Convert.{Conversion, convert}
 use Rattle.binarize.proofs.Adds.{Each, none, more}
-use Rattle.binarize.proofs.Kept.{IsRule, long-rules}
+use Rattle.binarize.proofs.Kept.{IsRule, split-rules}
 use Rattle.binarize.proofs.WrittenFault.{rules-append}
 
 -- records come behind others, and one of them at most is no rule
@@ -27,7 +27,7 @@ unfolding convert
 convert-adds fresh r c =
     cases (isLong r)
     (λ t.
-    let a = long-rules fresh (headOf r) (bodyOf r) c in
+    let a = split-rules fresh (headOf r) (bodyOf r) c in
     rw t (record { new = a .new; is = a .is; most-rules = omega (arith, rules-counted (a .each)) }))
     (λ t. rw t (record { new = shortOf r ∷ []; is = refl; most-rules = omega arith }))
 

@@ -44,9 +44,5 @@ text-passed text e =
     let (broken, e) = check-passed-test _ _ _ _ e in
     record { within = ltb-false _ _ long; whole = eqb-true _ _ (not-false _ broken); walk = e }
 
-pub member-formed : (text : List ℕ) → textCheck text .number ≡ 0 → (r : List ℕ) → List·Memᴰ r (textRecords text)
-    → formFault r ≡ 0
-member-formed text e r m = each-formed [] (text-passed text e .walk) m
-
 pub all-formed : (text : List ℕ) → textCheck text .number ≡ 0 → AllFormed (textRecords text)
-all-formed text e i h = member-formed text e _ (member-at [] (textRecords text) i h)
+all-formed text e i h = each-formed [] (text-passed text e .walk) (member-at [] (textRecords text) i h)

@@ -1,41 +1,29 @@
 -- What is known of a record that is not refused by itself. Assumes nothing.
-use Rattle.grammar.proofs.Basics.{_≡_, _∙_, sym, subst, true, false, Bool, _&&_, List, _∷_, [], List·Memᴰ}
-use Rattle.grammar.proofs.Basics.{List·Memᴰ·head, List·Memᴰ·tail, ℕ, _<_, ltb, eqb, length, getD, ltb-true, eqb-true}
-use Rattle.grammar.proofs.Basics.{eqb-false, not-false, and-left, and-right}
+use Rattle.grammar.proofs.Basics.{_≡_, _∙_, sym, true, false, Bool, _&&_, List, _∷_, [], ℕ, _<_, ltb, eqb, ltb-true}
+use Rattle.grammar.proofs.Basics.{eqb-true, eqb-false, not-false, and-left, and-right}
 use Rattle.grammar.proofs.Strings.{All, nil, cons}
 use Rattle.job.specs.declared.JobRecord.{JobRecord}
-use Rattle.job.specs.Format.{rowOf, badField}
+use Rattle.job.specs.Format.{fieldClasses, rowOf, badField}
 use Rattle.job.proofs.Shapes.{known-row, test-passed}
-use Rattle.job.proofs.NoRepeat.{member-at}
 use Rattle.binarize.specs.Dialect.{kindOf, isLong, headOf, bodyOf, shortOf, allBelow}
-use Rattle.binarize.specs.Check.{isUnknown, isMisfit, isIllPadded, formFault}
+use Rattle.binarize.specs.Check.{isUnknown, isMisfit, formFault}
 
--- none of the three faults is its
+-- its kind is known, and its fields fit
 pub record WellFormed (r : List ℕ) : Type 0 where
   pub known : isUnknown r ≡ false
   pub fitting : isMisfit r ≡ false
-  pub padded : isIllPadded r ≡ false
 
 pub well-formed : (r : List ℕ) → formFault r ≡ 0 → WellFormed r
 unfolding formFault
 well-formed r e =
     let (unknown, e) = test-passed _ 2 _ e in
-    let (misfit, e) = test-passed _ 3 _ e in
-    let (padding, e) = test-passed _ 14 0 e in
-    record { known = unknown; fitting = misfit; padded = padding }
+    record { known = unknown; fitting = test-passed _ 3 _ e .0 }
 
 -- the numbers of a list that are all below n
-pub all-below : (n : ℕ) (β : List ℕ) → allBelow n β ≡ true → All (λ X. X < n) β
+all-below : (n : ℕ) (β : List ℕ) → allBelow n β ≡ true → All (λ X. X < n) β
 unfolding allBelow
 all-below n [] e = nil
 all-below n (X ∷ β) e = cons (ltb-true X n (and-left (ltb X n) _ e)) (all-below n β (and-right (ltb X n) _ e))
-
-pub all-member : {P : ℕ → Type 0} {α : List ℕ} → All P α → (X : ℕ) → List·Memᴰ X α → P X
-all-member {P = P} (cons p ps) X (List·Memᴰ·head e) = subst P (sym e) p
-all-member (cons p ps) X (List·Memᴰ·tail m) = all-member ps X m
-
-pub below-at-place : (n : ℕ) (xs : List ℕ) (k : ℕ) → allBelow n xs ≡ true → k < length xs → getD xs k 0 < n
-below-at-place n xs k e h = all-member (all-below n xs e) (getD xs k 0) (member-at 0 xs k h)
 
 -- an L record has a variable for its head and symbols in its body, and any other is one of a job
 pub long-fits : (r : List ℕ) → isLong r ≡ true → WellFormed r → (headOf r < 32) × All (λ X. X < 64) (bodyOf r)
@@ -45,7 +33,7 @@ long-fits r long f =
     (ltb-true (headOf r) 32 (and-left _ _ e), all-below 64 (bodyOf r) (and-right (ltb (headOf r) 32) _ e))
 
 pub short-fits : (r : List ℕ) → isLong r ≡ false → WellFormed r
-    → (eqb (rowOf (kindOf r)) 7 ≡ false) × (badField (shortOf r) ≡ 0)
+    → (eqb (rowOf (kindOf r)) 7 ≡ false) × (badField fieldClasses (shortOf r) ≡ 0)
 unfolding isMisfit
 short-fits r short f = (rw short at (f .known), eqb-true _ _ (not-false _ (rw short at (f .fitting))))
 

@@ -1,6 +1,7 @@
 -- The job that a successful call leaves passes the checks of start: its records are those written, which the second
 -- walk kept sound. Assumes nothing.
 use Rattle.grammar.proofs.Basics.{_≡_, _∙_, true, List, ℕ, arith, length, ltb-true, not-false}
+use Rattle.job.specs.Format.{fieldClasses}
 use Rattle.job.specs.Check.{fullLimits}
 use Rattle.job.specs.Format.{byteI, byteS}
 use Rattle.job.proofs.Accepted.{passed-check, check-passed-test}
@@ -36,7 +37,7 @@ written-accepted text out s =
     let a = written-alike p in
     let (start, initial) = none-missing (textRecords text) (p .none-missing) in
     let counted = bytes-counted (jobRecords text) in
-    passed-check fullLimits true (jobWritten text out) (record {
+    passed-check fieldClasses fullLimits true (jobWritten text out) (record {
       within = rw (p .bytes) (omega (arith, few-records p));
       whole = rw (p .bytes) (omega arith);
       sound = rw (records-left p) (a .sound);

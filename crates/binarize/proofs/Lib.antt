@@ -5,7 +5,6 @@ pub mod Formed
 pub mod FirstWalk
 pub mod Front
 pub mod FreeVariables
-pub mod Below
 pub mod Buffer
 pub mod Success
 pub mod Converted
@@ -19,14 +18,12 @@ pub mod Meaning
 pub mod RuleKinds
 pub mod Naming
 pub mod JobRules
-pub mod WrittenFor
 pub mod Deriving
 pub mod SameStrings
 pub mod WrittenFault
 pub mod AddedRules
 pub mod WalkSteps
 pub mod RulesAdded
-pub mod RulesWritten
 pub mod KindsCounted
 pub mod WrittenSound
 pub mod JobAccepted

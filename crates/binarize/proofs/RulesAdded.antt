@@ -1,35 +1,46 @@
--- Rules that fit, written behind other records: where 5 and 7 refuse none of them, sound records stay sound. By
--- recursion on the rules. Assumes nothing.
+-- Rules that fit, such as an L record is split into, written behind other records: where 5 and 7 refuse none of them,
+-- sound records stay sound. By recursion on the rules. Assumes nothing.
 use Rattle.grammar.proofs.Basics.{_≡_, refl, true, false, _&&_, List, _∷_, [], _++_, append-nil, append-assoc, ℕ, _<_}
-use Rattle.grammar.proofs.Basics.{eqb, leb, lt-ltb}
+use Rattle.grammar.proofs.Basics.{arith, eqb, leb, lt-ltb}
 use Rattle.job.specs.declared.JobRecord.{JobRecord}
-use Rattle.job.specs.Format.{rowOf, badField, isRule, has, byteI, byteS}
+use Rattle.job.specs.Format.{fieldClasses, rowOf, badField, isRule, has, byteI, byteS}
 use Rattle.job.specs.Check.{fullLimits, countRules, isSecond, fault}
 use Rattle.job.proofs.Shapes.{test-passed}
 use Rattle.job.proofs.Sound.{Sound}
 use Rattle.job.proofs.Accepted.{grows-behind}
 use Rattle.binarize.proofs.RuleKinds.{for-rule}
-use Rattle.binarize.proofs.Adds.{Each, none, more}
+use Rattle.binarize.proofs.Adds.{Each, none, more, Shapes}
 use Rattle.binarize.specs.Convert.{emptyRecord, unitRecord, pairRecord}
 use Rattle.binarize.specs.Walk.{writtenFault}
 
 -- the record of a rule whose fields fit
 pub record FittingRule (x : JobRecord) : Type 0 where
   pub rule : isRule x ≡ true
-  pub fitting : badField x ≡ 0
+  pub fitting : badField fieldClasses x ≡ 0
 
 -- such are E A, U A X and P A X Y
-pub empty-fits : {A : ℕ} → A < 32 → FittingRule (emptyRecord A)
+empty-fits : {A : ℕ} → A < 32 → FittingRule (emptyRecord A)
 unfolding badField
 empty-fits {A} a = record { rule = refl; fitting = rw (lt-ltb A 32 a) }
 
-pub unit-fits : {A X : ℕ} → A < 32 → X < 64 → FittingRule (unitRecord A X)
+unit-fits : {A X : ℕ} → A < 32 → X < 64 → FittingRule (unitRecord A X)
 unfolding badField
 unit-fits {A} {X} a x = record { rule = refl; fitting = rw (lt-ltb A 32 a, lt-ltb X 64 x) }
 
-pub pair-fits : {A X Y : ℕ} → A < 32 → X < 32 → Y < 32 → FittingRule (pairRecord A X Y)
+pair-fits : {A X Y : ℕ} → A < 32 → X < 64 → Y < 64 → FittingRule (pairRecord A X Y)
 unfolding badField
-pair-fits {A} {X} {Y} a x y = record { rule = refl; fitting = rw (lt-ltb A 32 a, lt-ltb X 32 x, lt-ltb Y 32 y) }
+pair-fits {A} {X} {Y} a x y = record { rule = refl; fitting = rw (lt-ltb A 32 a, lt-ltb X 64 x, lt-ltb Y 64 y) }
+
+-- so the rules of a split body fit, where the numbers that are given in turn are variables
+pub shapes-fit : {fresh : ℕ → ℕ} → ((k : ℕ) → fresh k < 32) → Shapes FittingRule fresh (λ A. A < 32) (λ X. X < 64)
+shapes-fit variable =
+    record {
+      fresh-head = variable;
+      fresh-symbol = λ k. omega (arith, variable k);
+      of-none = λ A. empty-fits;
+      of-one = λ A X. unit-fits;
+      of-two = λ A X Y. pair-fits;
+    }
 
 -- what 5 and 7 have passed
 pub writes-on : (seen : List JobRecord) (x : JobRecord) (xs : List JobRecord) → writtenFault seen (x ∷ xs) ≡ 0
@@ -42,16 +53,17 @@ writes-on seen x xs e =
     (old, full, e)
 
 -- a record that passes 3, 4 and 6 besides keeps what is written sound
-pub one-more-sound : {seen : List JobRecord} (x : JobRecord) → Sound fullLimits seen
-    → eqb (rowOf (x .kind)) 7 ≡ false → badField x ≡ 0
+pub one-more-sound : {seen : List JobRecord} (x : JobRecord) → Sound fieldClasses fullLimits seen
+    → eqb (rowOf (x .kind)) 7 ≡ false → badField fieldClasses x ≡ 0
     → has seen x ≡ false → isSecond seen x ≡ false → (isRule x && leb 256 (countRules seen)) ≡ false
-    → Sound fullLimits (seen ++ (x ∷ []))
+    → Sound fieldClasses fullLimits (seen ++ (x ∷ []))
 unfolding fault
-one-more-sound x s known fits old second full = grows-behind fullLimits _ x s (rw (known, fits, old, second, full))
+one-more-sound x s known fits old second full =
+    grows-behind fieldClasses fullLimits _ x s (rw (known, fits, old, second, full))
 
 -- so do rules that fit
-pub rules-sound : {seen new : List JobRecord} → Sound fullLimits seen → Each FittingRule new
-    → writtenFault seen new ≡ 0 → Sound fullLimits (seen ++ new)
+pub rules-sound : {seen new : List JobRecord} → Sound fieldClasses fullLimits seen → Each FittingRule new
+    → writtenFault seen new ≡ 0 → Sound fieldClasses fullLimits (seen ++ new)
 rules-sound s none e = rw append-nil s
 rules-sound {seen} s (more {x} {xs} f fs) e =
     let (old, full, e) = writes-on seen x xs e in

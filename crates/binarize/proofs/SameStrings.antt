@@ -2,7 +2,7 @@
 -- derivation by the job; and where each taken variable stands for its string, each rule of the job is a derivation by
 -- the text. Named symbols and terminals stand for themselves. Assumes nothing.
 use Rattle.grammar.proofs.Basics.{_≡_, refl, true, false, List, _∷_, [], List·Memᴰ, List·Memᴰ·not-nil, List·Memᴰ·head}
-use Rattle.grammar.proofs.Basics.{List·Memᴰ·tail, ℕ, _<_, _≤_, arith, length, inl, true-and-false, _↔_}
+use Rattle.grammar.proofs.Basics.{List·Memᴰ·tail, ℕ, _≤_, arith, length, true-and-false, _↔_}
 use Rattle.grammar.specs.Symbol.{Terminals}
 use Rattle.grammar.specs.Rule.{head, body, ProductionsOf, Among}
 use Rattle.grammar.specs.Derivation.{Derives, none}
@@ -23,12 +23,9 @@ use Rattle.binarize.proofs.FreeVariables.{free-member, free-distinct}
 use Rattle.binarize.proofs.StandFor.{standFor, other-stands, all-stand, self-string}
 use Rattle.binarize.proofs.Naming.{names-named, long-names, rule-not-long, rule-names}
 use Rattle.binarize.proofs.JobRules.{record-production, production-record}
-use Rattle.binarize.proofs.Below.{below-length, below-at}
-use Rattle.binarize.proofs.Formed.{WellFormed, well-formed, long-fits, all-member}
-use Rattle.binarize.proofs.FirstWalk.{member-formed}
 use Rattle.binarize.proofs.Success.{success-passes, records-left}
 
-module _ (rs : List (List ℕ)) (formed : (r : List ℕ) → List·Memᴰ r rs → WellFormed r) where
+module _ (rs : List (List ℕ)) where
   abbrev fresh : ℕ → ℕ
   fresh = inTurn (freeIn rs)
 
@@ -41,14 +38,9 @@ module _ (rs : List (List ℕ)) (formed : (r : List ℕ) → List·Memᴰ r rs �
   abbrev Q : ℕ → List ℕ → Type 0
   Q = ProductionsOf (Among (jobOfRecords (converted .written) .rules))
 
-  symbols : (r : List ℕ) → List·Memᴰ r rs → isLong r ≡ true → (X : ℕ) → List·Memᴰ X (bodyOf r) → X < 64
-  symbols r m t = all-member (long-fits r t (formed r m) .1)
-
-  derived : (r : List ℕ) → List·Memᴰ r rs →
-      Derived (converted .written) fresh Q (record-production (converted .written)) r
+  derived : (r : List ℕ) → List·Memᴰ r rs → Derived (converted .written) Q r
   derived =
-      all-derived (converted .written) fresh Q (record-production (converted .written)) rs noneConverted symbols
-      (λ x m. m) (record { size = below-length 64; each = λ X h. inl (below-at 64 X h) })
+      all-derived (converted .written) fresh Q (record-production (converted .written)) rs noneConverted (λ x m. m)
 
   production-derives : (A : ℕ) (β : List ℕ) → P A β → Derives Q (A ∷ []) β
   production-derives A β (of-long r m t) = derived r m .production t
@@ -58,7 +50,7 @@ module _ (rs : List (List ℕ)) (formed : (r : List ℕ) → List·Memᴰ r rs �
 
   module _ (enough : converted .taken ≤ length (freeIn rs)) where
     abbrev strings : List (List ℕ)
-    strings = allStrings fresh rs noneConverted
+    strings = allStrings rs
 
     abbrev σ : ℕ → List ℕ
     σ = standFor (freeIn rs) strings
@@ -70,7 +62,7 @@ module _ (rs : List (List ℕ)) (formed : (r : List ℕ) → List·Memᴰ r rs �
     terminal-stands X h = other-stands (freeIn rs) strings X (λ m. omega (arith, free-member rs 32 X m .0))
 
     -- the rule of a record as it is
-    rule-meant : (r : List ℕ) → List·Memᴰ r rs → isLong r ≡ false → Meant P fresh σ (shortOf r)
+    rule-meant : (r : List ℕ) → List·Memᴰ r rs → isLong r ≡ false → Meant P σ (shortOf r)
     unfolding names
     rule-meant r m l t =
         let rule = ruleOf (shortOf r) in
@@ -79,25 +71,20 @@ module _ (rs : List (List ℕ)) (formed : (r : List ℕ) → List·Memᴰ r rs �
         rw (self (head rule) (List·Memᴰ·head refl), self-string σ (body rule) (λ X n. self X (List·Memᴰ·tail n)))
         (derives-production (of-short r m t) none)
 
-    says : (r : List ℕ) → List·Memᴰ r rs → Says P fresh σ terminal-stands r
+    says : (r : List ℕ) → List·Memᴰ r rs → Says P σ r
     says r m =
         let self : isLong r ≡ true → (X : ℕ) → List·Memᴰ X (headOf r ∷ bodyOf r) → σ X ≡ X ∷ [] =
         λ t X n. named-stands X (names-named X m (long-names r X t n)) in
         record {
-          symbols = λ t X n. (symbols r m t X n, self t X (List·Memᴰ·tail n));
+          symbols = λ t X n. self t X (List·Memᴰ·tail n);
           production = λ t.
               rw (self t (headOf r) (List·Memᴰ·head refl)) (derives-production (of-long r m t) none);
           rule = rule-meant r m;
         }
 
-    right : Right P fresh σ converted
+    right : Right P σ converted
     right =
-        all-right P fresh σ terminal-stands rs noneConverted says
-        (record {
-          size = below-length 64;
-          for = λ X h s. rw (below-at 64 X h) s;
-          rules = λ r m. absurd (List·Memᴰ·not-nil m);
-        })
+        all-right P σ fresh rs noneConverted says (λ r m. absurd (List·Memᴰ·not-nil m))
         (all-stand (freeIn rs) strings (free-distinct rs 32) (omega (arith, enough, all-taken fresh rs noneConverted)))
 
     terminals-stand : (w : List ℕ) → Terminals w → (X : ℕ) → List·Memᴰ X w → σ X ≡ X ∷ []
@@ -111,7 +98,7 @@ module _ (rs : List (List ℕ)) (formed : (r : List ℕ) → List·Memᴰ r rs �
     same-by-records A n w t = (
       each-derives production-derives,
       λ d.
-          let stands = production-record (converted .written) (λ B β. Derives P (σ B) (stringOf σ β)) (right .rules) in
+          let stands = production-record (converted .written) (λ B β. Derives P (σ B) (stringOf σ β)) right in
           let e = standing-derives σ stands d in
           rw (named-stands A n, self-string σ w (terminals-stand w t)) at e,
     )
@@ -123,5 +110,4 @@ same-strings text out s A n w t =
     let rs = textRecords text in
     let (e, enough) = converts-written (length (freeIn rs)) (inTurn (freeIn rs)) 0 rs noneConverted (omega arith)
     (p .second-walk) in
-    rw (records-left p, e)
-    (same-by-records rs (λ r m. well-formed r (member-formed text (p .first-walk) r m)) enough A n w t)
+    rw (records-left p, e) (same-by-records rs enough A n w t)

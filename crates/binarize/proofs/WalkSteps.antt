@@ -11,21 +11,19 @@ use Rattle.binarize.specs.declared.RuleCount.{RuleCount}
 use Rattle.binarize.specs.declared.Step.{Step}
 use Rattle.binarize.specs.Convert.{Conversion, convert}
 use Rattle.binarize.specs.Fresh.{freeIn}
-use Rattle.binarize.specs.Walk.{convertFault, faultFrom, convertAll, below, noneConverted, inTurn, walked}
+use Rattle.binarize.specs.Walk.{convertFault, faultFrom, convertAll, noneConverted, inTurn, walked}
 use Rattle.binarize.specs.Inside.Parts.{writtenSize, conversionOf, progressOf, InFront, Reached, Underway}
 use Rattle.binarize.specs.Inside.Parts.{Stepped, WalkedTo}
-use Rattle.binarize.proofs.Below.{below-length}
 use Rattle.binarize.proofs.Front.{unnamed-few}
 use Rattle.binarize.proofs.Buffer.{first-counted}
 use Rattle.binarize.proofs.AddedRules.{Added, front-kept, no-fewer, added-counted, convert-adds}
 
 -- a record is converted
-module _ (free i : ℕ) (fresh : ℕ → ℕ) (bytes : List ℕ) (s : Step) (for out : List ℕ)
-    (underway : Underway free i s for out) (p : Progress) (for′ out′ : List ℕ)
-    (reached :
-    Reached (progressOf s) p for′ out′ 14 15 (convert fresh bytes (conversionOf (progressOf s) for out))) where
+module _ (free i : ℕ) (fresh : ℕ → ℕ) (bytes : List ℕ) (s : Step) (out : List ℕ) (underway : Underway free i s out)
+    (p : Progress) (out′ : List ℕ)
+    (reached : Reached (progressOf s) p out′ (convert fresh bytes (conversionOf (progressOf s) out))) where
   abbrev before : Conversion
-  before = conversionOf (progressOf s) for out
+  before = conversionOf (progressOf s) out
 
   abbrev after : Conversion
   after = convert fresh bytes before
@@ -35,7 +33,7 @@ module _ (free i : ℕ) (fresh : ℕ → ℕ) (bytes : List ℕ) (s : Step) (for
 
   -- more variables are taken than are free
   pub stepped-too-far : free < p .taken →
-      Stepped free i before after (record { number = 14; taken = 0; count = 0; rules = 0 }) for′ out′
+      Stepped free i before after (record { number = 14; taken = 0; count = 0; rules = 0 }) out′
   unfolding convertFault
   stepped-too-far h =
       record {
@@ -80,7 +78,7 @@ module _ (free i : ℕ) (fresh : ℕ → ℕ) (bytes : List ℕ) (s : Step) (for
     pub stepped : (c : RuleCount) → p .taken ≤ free → c .number ≡ faultFrom (s .count) (recordsOf part) →
         (c .number ≡ 0 → (c .rules ≡ countRules (recordsOf part)) × (c .rules ≤ 256)) →
         Stepped free i before after
-        (record { number = c .number; taken = p .taken; count = p .count; rules = c .rules }) for′ out′
+        (record { number = c .number; taken = p .taken; count = p .count; rules = c .rules }) out′
     unfolding convertFault
     stepped c h fault rules =
         record {
@@ -89,7 +87,6 @@ module _ (free i : ℕ) (fresh : ℕ → ℕ) (bytes : List ℕ) (s : Step) (for
           underway = λ e.
               let counted : c .rules ≡ countRules (after .written) = rw (← looked-at) (rules e .0) in
               record {
-                for-size = reached .for-size;
                 out-size = reached .out-size;
                 free-few = underway .free-few;
                 taken-few = h;
@@ -120,18 +117,17 @@ module _ (free : ℕ) (fresh : ℕ → ℕ) (i : ℕ) (r : List ℕ) (rs : List 
   refused-there k e n = rw (← e, ne-eqb k 0 n)
 
 -- where the walk over a text stands at record i
-pub record Walking (rs : List (List ℕ)) (array : List ℕ) (free i : ℕ) (s : Step) (for out : List ℕ) : Type 0 where
-  pub underway : Underway free i s for out
-  pub rest : walked rs ≡ convertAll free (inTurn array) i (drop i rs) (conversionOf (progressOf s) for out)
+pub record Walking (rs : List (List ℕ)) (array : List ℕ) (free i : ℕ) (s : Step) (out : List ℕ) : Type 0 where
+  pub underway : Underway free i s out
+  pub rest : walked rs ≡ convertAll free (inTurn array) i (drop i rs) (conversionOf (progressOf s) out)
 
-pub walking-none : (rs : List (List ℕ)) (array : List ℕ) (free : ℕ) (for out : List ℕ) →
-    InFront array free (freeIn rs) → for ≡ below 64 → length out ≡ writtenSize →
-    Walking rs array free 0 (record { number = 0; taken = 0; count = 0; rules = 0 }) for out
+pub walking-none : (rs : List (List ℕ)) (array : List ℕ) (free : ℕ) (out : List ℕ) →
+    InFront array free (freeIn rs) → length out ≡ writtenSize →
+    Walking rs array free 0 (record { number = 0; taken = 0; count = 0; rules = 0 }) out
 unfolding walked recordsOf countRules
-walking-none rs array free for out front filled size =
+walking-none rs array free out front size =
     record {
       underway = record {
-        for-size = ap length filled ∙ below-length 64;
         out-size = size;
         free-few = omega (arith, front .counted, unnamed-few rs 32);
         taken-few = omega arith;
@@ -140,20 +136,19 @@ walking-none rs array free for out front filled size =
         count-few = omega arith;
       };
       rest =
-          rw filled (ap₂ (λ n fresh. convertAll n fresh 0 rs noneConverted) (sym (front .counted))
-          (sym (fun-ext (front .alike))));
+          ap₂ (λ n fresh. convertAll n fresh 0 rs noneConverted) (sym (front .counted))
+          (sym (fun-ext (front .alike)));
     }
 
-module _ (rs : List (List ℕ)) (array : List ℕ) (free i : ℕ) (s : Step) (for out : List ℕ)
-    (w : Walking rs array free i s for out) where
-  module _ (bytes : List ℕ) (s′ : Step) (for′ out′ : List ℕ) (h : i < length rs) (at : bytes ≡ getD rs i [])
-      (step : Stepped free i (conversionOf (progressOf s) for out)
-      (convert (inTurn array) bytes (conversionOf (progressOf s) for out)) s′ for′ out′) where
-    here : walked rs
-        ≡ convertAll free (inTurn array) i (bytes ∷ drop (i + 1) rs) (conversionOf (progressOf s) for out)
+module _ (rs : List (List ℕ)) (array : List ℕ) (free i : ℕ) (s : Step) (out : List ℕ)
+    (w : Walking rs array free i s out) where
+  module _ (bytes : List ℕ) (s′ : Step) (out′ : List ℕ) (h : i < length rs) (at : bytes ≡ getD rs i [])
+      (step : Stepped free i (conversionOf (progressOf s) out)
+      (convert (inTurn array) bytes (conversionOf (progressOf s) out)) s′ out′) where
+    here : walked rs ≡ convertAll free (inTurn array) i (bytes ∷ drop (i + 1) rs) (conversionOf (progressOf s) out)
     here = w .rest ∙ rw (drop-cons rs i [] h, at, add-one)
 
-    pub walking-more : s′ .number ≡ 0 → Walking rs array free (i + 1) s′ for′ out′
+    pub walking-more : s′ .number ≡ 0 → Walking rs array free (i + 1) s′ out′
     walking-more e =
         record {
           underway = step .underway e;
@@ -176,7 +171,7 @@ module _ (rs : List (List ℕ)) (array : List ℕ) (free i : ℕ) (s : Step) (fo
   unfolding convertAll
   walked-all h few =
       let u = w .underway in
-      let c = conversionOf (progressOf s) for out in
+      let c = conversionOf (progressOf s) out in
       let end : walked rs ≡ record { refusal = accepted; written = c .written } = rw (w .rest, drop-of-length-le rs) in
       record {
         out-size = u .out-size;

@@ -4,22 +4,20 @@ use Rattle.grammar.proofs.Basics.{_≡_, refl, true, false, Bool, _&&_, _||_, L
 use Rattle.grammar.proofs.Basics.{append-assoc, ℕ, _<_, suc, eqb, ltb, length, eqb-true, eqb-false, cases}
 use lib.Seq.{take-append-seam, drop-append-seam}
 use Rattle.job.specs.declared.JobRecord.{JobRecord}
-use Rattle.job.specs.Format.{byteI, byteS}
+use Rattle.job.specs.Format.{fieldClasses, byteI, byteS}
 use Rattle.job.specs.Check.{fullLimits, countKind}
 use Rattle.job.proofs.Shapes.{test-passed}
 use Rattle.job.proofs.Sound.{Sound}
 use Rattle.job.proofs.Accepted.{empty-sound}
-use Rattle.binarize.specs.Dialect.{kindOf, isLong, headOf, bodyOf, shortOf, hasKind}
+use Rattle.binarize.specs.Dialect.{kindOf, isLong, shortOf, hasKind}
 use Rattle.binarize.specs.Check.{isSecond, fault, firstFault}
 use Rattle.binarize.specs.Convert.{Conversion, convert}
 use Rattle.binarize.specs.Walk.{writtenFault, faultFrom, convertFault, convertAll, noneConverted}
 use Rattle.binarize.proofs.Formed.{WellFormed, well-formed, long-fits, short-fits}
 use Rattle.binarize.proofs.FirstWalk.{faultless, walks-on}
-use Rattle.binarize.proofs.Adds.{Each}
-use Rattle.binarize.proofs.RulesAdded.{FittingRule, writes-on, one-more-sound, rules-sound}
+use Rattle.binarize.proofs.Adds.{Each, split-adds}
+use Rattle.binarize.proofs.RulesAdded.{FittingRule, shapes-fit, writes-on, one-more-sound, rules-sound}
 use Rattle.binarize.proofs.KindsCounted.{short-kind, long-kind}
-use Rattle.binarize.proofs.WrittenFor.{SelfOrVariable, first-own}
-use Rattle.binarize.proofs.RulesWritten.{long-adds, long-own}
 
 -- the two tests for a second S or I agree
 second-alike : (k : ℕ) (f : ℕ → Bool) → ((eqb k byteS || eqb k byteI) && f k) ≡ false
@@ -33,7 +31,7 @@ second-alike k f e =
 
 -- what is written for the records seen
 pub record Alike (seen : List (List ℕ)) (written : List JobRecord) : Type 0 where
-  pub sound : Sound fullLimits written
+  pub sound : Sound fieldClasses fullLimits written
   pub start : ltb 0 (countKind byteS written) ≡ hasKind byteS seen
   pub initial : ltb 0 (countKind byteI written) ≡ hasKind byteI seen
 
@@ -68,45 +66,34 @@ behind-passed free c d new is e =
     let e = test-passed (ltb free (d .taken)) 13 (faultFrom (length (c .written)) (d .written)) e .1 in
     rw (is, take-append-seam (c .written) new, drop-append-seam (c .written) new) at e
 
--- a conversion of the records seen
-record Converted (seen : List (List ℕ)) (c : Conversion) : Type 0 where
-  alike : Alike seen (c .written)
-  own : SelfOrVariable (c .written-for)
-
 -- the numbers that are given in turn are variables
 module _ (fresh : ℕ → ℕ) (variable : (k : ℕ) → fresh k < 32) (free : ℕ) where
-  convert-keeps : {seen : List (List ℕ)} {c : Conversion} (r : List ℕ) → Converted seen c → fault seen r ≡ 0
+  convert-keeps : {seen : List (List ℕ)} (c : Conversion) (r : List ℕ) → Alike seen (c .written) → fault seen r ≡ 0
       → convertFault free c (convert fresh r c) ≡ 0
-      → Converted (seen ++ (r ∷ [])) (convert fresh r c)
+      → Alike (seen ++ (r ∷ [])) (convert fresh r c .written)
   unfolding convert
-  convert-keeps {seen} {c} r s tried e =
+  convert-keeps {seen} c r s tried e =
       let (formed, second) = faultless seen r tried in
       let f = well-formed r formed in
       cases (isLong r)
       (λ t.
       let (a, hs) = long-fits r t f in
-      let adds = long-adds fresh variable c (s .own) a hs in
+      let adds = split-adds (shapes-fit variable) c a hs in
       let passed = behind-passed free c _ (adds .new) (adds .is) (rw t at e) in
-      rw t
-      (record {
-        alike = rw (adds .is) (long-alike (s .alike) r t (adds .each) passed);
-        own = long-own fresh variable (headOf r) (bodyOf r) c (s .own);
-      }))
-      (λ t.
-      let passed = behind-passed free c _ (shortOf r ∷ []) refl (rw t at e) in
-      rw t (record { alike = short-alike (s .alike) r t f second passed; own = s .own }))
+      rw (t, adds .is) (long-alike s r t (adds .each) passed))
+      (λ t. rw t (short-alike s r t f second (behind-passed free c _ (shortOf r ∷ []) refl (rw t at e))))
 
-  walk-keeps : (i : ℕ) (seen rs : List (List ℕ)) (c : Conversion) → Converted seen c
+  walk-keeps : (i : ℕ) (seen rs : List (List ℕ)) (c : Conversion) → Alike seen (c .written)
       → firstFault seen rs .number ≡ 0 → convertAll free fresh i rs c .refusal .number ≡ 0
       → Alike (seen ++ rs) (convertAll free fresh i rs c .written)
   unfolding convertAll
-  walk-keeps i seen [] c s p e = rw append-nil (s .alike)
+  walk-keeps i seen [] c s p e = rw append-nil s
   walk-keeps i seen (r ∷ rs) c s p e =
       let (tried, p) = walks-on seen r rs p in
       let d = convert fresh r c in
       cases (eqb (convertFault free c d) 0)
       (λ t.
-      let kept = convert-keeps r s tried (eqb-true _ _ t) in
+      let kept = convert-keeps c r s tried (eqb-true _ _ t) in
       rw t (rw append-assoc at (walk-keeps (suc i) (seen ++ (r ∷ [])) rs d kept p (rw t at e))))
       (λ t. absurd (eqb-false _ _ t (rw t at e)))
 
@@ -116,4 +103,4 @@ module _ (fresh : ℕ → ℕ) (variable : (k : ℕ) → fresh k < 32) (free : �
   unfolding countKind hasKind
   walked-alike rs p e =
       walk-keeps 0 [] rs noneConverted
-      (record { alike = record { sound = empty-sound fullLimits; start = refl; initial = refl }; own = first-own }) p e
+      (record { sound = empty-sound fieldClasses fullLimits; start = refl; initial = refl }) p e

@@ -6,7 +6,7 @@ use mathlib.Core.List.{List, [], _∷_, _++_}
 use lib.Dec.{eqb, ltb}
 use lib.ListN.{length}
 use Rattle.job.specs.declared.Checked.{Checked}
-use Rattle.job.specs.Format.{rowOf, badField, byteI, byteS}
+use Rattle.job.specs.Format.{fieldClasses, rowOf, badField, byteI, byteS}
 use Rattle.job.specs.Check.{refused, accepted}
 use Rattle.binarize.specs.Dialect.{textRecords, kindOf, isLong, headOf, lengthByte, bodyOf, shortOf, paddingOf}
 use Rattle.binarize.specs.Dialect.{allBelow, hasKind}
@@ -18,7 +18,8 @@ isUnknown r = not (isLong r) && eqb (rowOf (kindOf r)) 7
 -- Long bodies, 4: in L the head is no variable or a byte of the body no symbol; else a field is outside its class
 unfoldable pub isMisfit : List ℕ → Bool
 isMisfit r =
-    cond (isLong r) (not (ltb (headOf r) 32 && allBelow 64 (bodyOf r))) (not (eqb (badField (shortOf r)) 0))
+    cond (isLong r) (not (ltb (headOf r) 32 && allBelow 64 (bodyOf r)))
+    (not (eqb (badField fieldClasses (shortOf r)) 0))
 
 -- Long bodies, 15: a length over 8, or a padding or closing byte that is not zero, which is to say not below 1
 unfoldable pub isIllPadded : List ℕ → Bool

@@ -6,7 +6,7 @@ use lib.Dec.{eqb}
 use Rattle.job.specs.declared.JobRecord.{JobRecord}
 use Rattle.job.specs.declared.FieldClass.{FieldClass}
 use Rattle.job.specs.declared.FieldClass.the-variants.{Zero, Variable, Symbol, State}
-use Rattle.job.specs.Format.{rowOf, classAt}
+use Rattle.job.specs.Format.{fieldClasses, rowOf, classAt}
 use Rattle.binarize.specs.Dialect.{isLong, headOf, bodyOf, shortOf}
 
 -- Long bodies: the fields of these classes name symbols; zero fields and states name none
@@ -23,9 +23,9 @@ fieldNames class x v = holdsSymbol class && eqb x v
 -- a record of a job names v
 unfoldable pub shortNames : JobRecord → ℕ → Bool
 shortNames r v =
-    fieldNames (classAt (rowOf (r .kind)) 0) (r .first) v
-    || fieldNames (classAt (rowOf (r .kind)) 1) (r .second) v
-    || fieldNames (classAt (rowOf (r .kind)) 2) (r .third) v
+    fieldNames (classAt fieldClasses (rowOf (r .kind)) 0) (r .first) v
+    || fieldNames (classAt fieldClasses (rowOf (r .kind)) 1) (r .second) v
+    || fieldNames (classAt fieldClasses (rowOf (r .kind)) 2) (r .third) v
 
 -- a number stands in a list
 unfoldable pub holds : List ℕ → ℕ → Bool

@@ -1,5 +1,5 @@
 -- Long bodies: the second walk over a text's records, which converts them and refuses by 14, 5 and 7. Assumes nothing.
-use Prim.Native.Nat.{ℕ, suc, zero}
+use Prim.Native.Nat.{ℕ, suc}
 use mathlib.Core.Bool.{cond, _&&_}
 use mathlib.Core.List.{List, [], _∷_, _++_}
 use lib.Dec.{eqb, ltb, leb}
@@ -40,14 +40,9 @@ convertAll free fresh i (r ∷ rs) c =
     cond (eqb (convertFault free c (convert fresh r c)) 0) (convertAll free fresh (suc i) rs (convert fresh r c))
     (record { refusal = refused (convertFault free c (convert fresh r c)) i; written = c .written })
 
--- the numbers below n
-unfoldable pub below : ℕ → List ℕ
-below zero = []
-below (suc n) = below n ++ (n ∷ [])
-
--- Long bodies: at first nothing is taken or written, and each symbol is written for itself
+-- Long bodies: at first nothing is taken or written
 abbrev pub noneConverted : Conversion
-noneConverted = record { taken = 0; written-for = below 64; written = [] }
+noneConverted = record { taken = 0; written = [] }
 
 -- the numbers of a list in turn, and 0 past the last; there 14 refuses
 abbrev pub inTurn : List ℕ → ℕ → ℕ

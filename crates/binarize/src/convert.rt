@@ -5,14 +5,9 @@ use crate::dialect;
 use job::JobRecord;
 use job::SYMBOLS;
 ghost use mathlib.Core.Path.{_≡_};
-ghost use mathlib.Core.Bool.{true, false, _&&_};
-ghost use mathlib.Core.List.{map};
 ghost use Prim.Native.Nat.{_<_, _≤_};
-ghost use lib.Dec.{eqb, leb};
-ghost use lib.ListN.{length, getD};
-ghost use Rattle.binarize.specs.Dialect.{allBelow};
-ghost use Rattle.binarize.specs.Check.{isMisfit};
-ghost use Rattle.binarize.specs.Convert.{writtenFor, meet, meetAll, split, convertLong, convert};
+ghost use lib.ListN.{length};
+ghost use Rattle.binarize.specs.Convert.{split, convert};
 ghost use Rattle.binarize.specs.Walk.{inTurn};
 ghost use Rattle.binarize.specs.Inside.Parts.{writtenRecords, writtenSize, conversionOf, Room, Appended};
 ghost use Rattle.binarize.specs.Inside.Parts.{Reached, shortRule};
@@ -29,87 +24,18 @@ fn put_record(written: &mut [u8], count: usize, r: JobRecord)
     written[at + 3] = r.third;
 }
 
-// Whether a symbol is a terminal that no body of two or more had yet.
-fn is_new(symbols: &[u8; SYMBOLS], x: u8) -> bool
-    requires within { ⌜ x < 64 ⌝ }
-    ensures says { λ ok. ⌜ ok ≡ (leb 32 x && eqb (getD (now (symbols .entry)) x 0) x) ⌝ }
-{
-    if x < 32 {
-        return false;
-    }
-    symbols[x as usize] == x
-}
-
-// A terminal that no body of two or more had yet takes a variable, and its U record is written.
-fn meet(
-    x: u8,
-    free: &[u8; SYMBOLS],
-    symbols: &mut [u8; SYMBOLS],
-    written: &mut [u8],
-    p: Progress,
-) -> Progress
-    requires within { ⌜ x < 64 ⌝ }
-    requires room { ⌜ Room p (now symbols) (now written) 1 1 ⌝ }
-    ensures reached { λ r. ⌜ Reached p r (now (symbols .exit)) (now (written .exit)) 1 1
-        (meet (inTurn (now (free .entry))) x (conversionOf p (now (symbols .entry)) (now (written .entry)))) ⌝ }
-{
-    if !is_new(symbols, x) {
-        return p;
-    }
-    let next = p.taken;
-    let variable = free[next];
-    let r = JobRecord {
-        kind: b'U',
-        first: variable,
-        second: x,
-        third: 0,
-    };
-    put_record(written, p.count, r);
-    symbols[x as usize] = variable;
-    Progress {
-        taken: p.taken + 1,
-        count: p.count + 1,
-    }
-}
-
-// So do the symbols of a body, left to right.
-fn meet_all(
-    body: &[u8],
-    free: &[u8; SYMBOLS],
-    symbols: &mut [u8; SYMBOLS],
-    written: &mut [u8],
-    p: Progress,
-) -> Progress
-    requires symbols { ⌜ (length (now body) ≤ 8) × (allBelow 64 (now body) ≡ true) ⌝ }
-    requires room { ⌜ Room p (now symbols) (now written) 8 8 ⌝ }
-    ensures reached { λ r. ⌜ Reached p r (now (symbols .exit)) (now (written .exit)) 8 8
-        (meetAll (inTurn (now (free .entry))) (now (body .entry))
-        (conversionOf p (now (symbols .entry)) (now (written .entry)))) ⌝ }
-{
-    let mut r = p;
-    let mut k = 0;
-    while k < body.len() {
-        r = meet(body[k], free, symbols, written, r);
-        k += 1;
-    }
-    r
-}
-
 // Splits a body of two or more: each pair rule but the last takes a variable for the rest.
 fn split_long(
     body: &[u8],
     head: u8,
     free: &[u8; SYMBOLS],
-    symbols: &[u8; SYMBOLS],
     written: &mut [u8],
     p: Progress,
 ) -> Progress
-    requires symbols { ⌜ (2 ≤ length (now body)) × (length (now body) ≤ 8) × (allBelow 64 (now body) ≡ true) ⌝ }
-    requires room { ⌜ Room p (now symbols) (now written) 6 7 ⌝ }
-    ensures reached { λ r. ⌜ Reached p r (now (symbols .entry)) (now (written .exit)) 6 7
-        (split (inTurn (now (free .entry))) head
-        (map (writtenFor (conversionOf p (now (symbols .entry)) (now (written .entry)))) (now (body .entry)))
-        (conversionOf p (now (symbols .entry)) (now (written .entry)))) ⌝ }
+    requires long { ⌜ (2 ≤ length (now body)) × (length (now body) ≤ 8) ⌝ }
+    requires room { ⌜ Room p (now written) ⌝ }
+    ensures reached { λ r. ⌜ Reached p r (now (written .exit))
+        (split (inTurn (now (free .entry))) head (now (body .entry)) (conversionOf p (now (written .entry)))) ⌝ }
 {
     let last = body.len() - 2;
     let mut variable = head;
@@ -120,7 +46,7 @@ fn split_long(
         let r = JobRecord {
             kind: b'P',
             first: variable,
-            second: symbols[body[k] as usize],
+            second: body[k],
             third: tail,
         };
         put_record(written, p.count + k, r);
@@ -130,8 +56,8 @@ fn split_long(
     let r = JobRecord {
         kind: b'P',
         first: variable,
-        second: symbols[body[last] as usize],
-        third: symbols[body[last + 1] as usize],
+        second: body[last],
+        third: body[last + 1],
     };
     put_record(written, p.count + last, r);
     Progress {
@@ -166,15 +92,13 @@ fn convert_long(
     body: &[u8],
     head: u8,
     free: &[u8; SYMBOLS],
-    symbols: &mut [u8; SYMBOLS],
     written: &mut [u8],
     p: Progress,
 ) -> Progress
-    requires symbols { ⌜ (length (now body) ≤ 8) × (allBelow 64 (now body) ≡ true) ⌝ }
-    requires room { ⌜ Room p (now symbols) (now written) 14 15 ⌝ }
-    ensures reached { λ r. ⌜ Reached p r (now (symbols .exit)) (now (written .exit)) 14 15
-        (convertLong (inTurn (now (free .entry))) head (now (body .entry))
-        (conversionOf p (now (symbols .entry)) (now (written .entry)))) ⌝ }
+    requires few { ⌜ length (now body) ≤ 8 ⌝ }
+    requires room { ⌜ Room p (now written) ⌝ }
+    ensures reached { λ r. ⌜ Reached p r (now (written .exit))
+        (split (inTurn (now (free .entry))) head (now (body .entry)) (conversionOf p (now (written .entry)))) ⌝ }
 {
     if body.len() < 2 {
         put_record(written, p.count, short_rule(head, body));
@@ -183,26 +107,18 @@ fn convert_long(
             count: p.count + 1,
         };
     }
-    let met = meet_all(body, free, symbols, written, p);
-    split_long(body, head, free, symbols, written, met)
+    split_long(body, head, free, written, p)
 }
 
 // Writes what a record of a text is written as.
-pub fn convert(
-    bytes: &[u8],
-    free: &[u8; SYMBOLS],
-    symbols: &mut [u8; SYMBOLS],
-    written: &mut [u8],
-    p: Progress,
-) -> Progress
-    requires formed { ⌜ (length (now bytes) ≡ 12) × (isMisfit (now bytes) ≡ false) ⌝ }
-    requires room { ⌜ Room p (now symbols) (now written) 14 15 ⌝ }
-    ensures reached { λ r. ⌜ Reached p r (now (symbols .exit)) (now (written .exit)) 14 15
-        (convert (inTurn (now (free .entry))) (now (bytes .entry))
-        (conversionOf p (now (symbols .entry)) (now (written .entry)))) ⌝ }
+pub fn convert(bytes: &[u8], free: &[u8; SYMBOLS], written: &mut [u8], p: Progress) -> Progress
+    requires long { ⌜ length (now bytes) ≡ 12 ⌝ }
+    requires room { ⌜ Room p (now written) ⌝ }
+    ensures reached { λ r. ⌜ Reached p r (now (written .exit))
+        (convert (inTurn (now (free .entry))) (now (bytes .entry)) (conversionOf p (now (written .entry)))) ⌝ }
 {
     if dialect::is_long(bytes) {
-        return convert_long(dialect::body(bytes), bytes[1], free, symbols, written, p);
+        return convert_long(dialect::body(bytes), bytes[1], free, written, p);
     }
     put_record(written, p.count, dialect::short_record(bytes));
     Progress {

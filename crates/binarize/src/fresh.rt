@@ -9,7 +9,7 @@ ghost use mathlib.Core.Bool.{false};
 ghost use mathlib.Core.List.{[]};
 ghost use Prim.Native.Nat.{suc, _<_};
 ghost use lib.ListN.{length};
-ghost use Rattle.job.specs.Format.{rowOf, classAt};
+ghost use Rattle.job.specs.Format.{fieldClasses, rowOf, classAt};
 ghost use Rattle.binarize.specs.Dialect.{textRecords};
 ghost use Rattle.binarize.specs.Check.{isUnknown};
 ghost use Rattle.binarize.specs.Fresh.{holdsSymbol, fieldNames, shortNames, holds, names, isNamed};
@@ -31,7 +31,7 @@ fn holds_symbol(class: FieldClass) -> bool
 // Whether a field of a row of the table, that holds a value, names v.
 fn field_names(row: usize, field: usize, value: u8, v: u8) -> bool
     requires within { ⌜ (row < 7) × (field < 3) ⌝ }
-    ensures says { λ ok. ⌜ ok ≡ fieldNames (classAt row field) value v ⌝ }
+    ensures says { λ ok. ⌜ ok ≡ fieldNames (classAt fieldClasses row field) value v ⌝ }
 {
     if holds_symbol(job::format::field_class(row, field)) {
         return value == v;

@@ -17,8 +17,8 @@ pub const TEXT_BYTES: usize = 49152;
 pub const BODY_SYMBOLS: usize = 8;
 
 // Room for the records written until a refusal: one for each of the 4,096 records of a text that is no rule, 256
-// rules, and the 15 that one record is written as at most.
-pub const WRITTEN_BYTES: usize = 17468;
+// rules, and the 7 that one record is written as at most.
+pub const WRITTEN_BYTES: usize = 17436;
 
 // What binarize answers: a refusal's number and place, 0 and 0 where nothing is refused, and the number of records
 // written.

@@ -10,15 +10,13 @@ use crate::fresh;
 use job::JobRecord;
 use job::SYMBOLS;
 ghost use mathlib.Core.Path.{_≡_};
-ghost use mathlib.Core.Bool.{false};
 ghost use Prim.Native.Nat.{_<_, _≤_, _%_};
 ghost use lib.ListN.{length, take};
 ghost use Rattle.job.specs.Format.{recordsOf};
 ghost use Rattle.job.specs.Check.{countRules};
 ghost use Rattle.binarize.specs.Dialect.{textRecords};
-ghost use Rattle.binarize.specs.Check.{isMisfit};
 ghost use Rattle.binarize.specs.Convert.{convert};
-ghost use Rattle.binarize.specs.Walk.{faultFrom, inTurn, below};
+ghost use Rattle.binarize.specs.Walk.{faultFrom, inTurn};
 ghost use Rattle.binarize.specs.Inside.Parts.{AllFormed, conversionOf, progressOf, Underway, Stepped};
 ghost use Rattle.binarize.specs.Inside.Parts.{faultOf, WalkedTo, writtenSize};
 
@@ -66,25 +64,22 @@ fn convert_next(
     bytes: &[u8],
     free: &[u8; SYMBOLS],
     available: usize,
-    symbols: &mut [u8; SYMBOLS],
     written: &mut [u8],
     i: usize,
     s: Step,
 ) -> Step
-    requires formed { ⌜ (length (now bytes) ≡ 12) × (isMisfit (now bytes) ≡ false) × (i < 4096) ⌝ }
-    requires underway { ⌜ Underway available i s (now symbols) (now written) ⌝ }
-    ensures stepped { λ r. ⌜ Stepped available i
-        (conversionOf (progressOf s) (now (symbols .entry)) (now (written .entry)))
+    requires within { ⌜ (length (now bytes) ≡ 12) × (i < 4096) ⌝ }
+    requires underway { ⌜ Underway available i s (now written) ⌝ }
+    ensures stepped { λ r. ⌜ Stepped available i (conversionOf (progressOf s) (now (written .entry)))
         (convert (inTurn (now (free .entry))) (now (bytes .entry))
-        (conversionOf (progressOf s) (now (symbols .entry)) (now (written .entry))))
-        r (now (symbols .exit)) (now (written .exit)) ⌝ }
-    ensures sizes { λ _. ⌜ (length (now (symbols .exit)) ≡ 64) × (length (now (written .exit)) ≡ writtenSize) ⌝ }
+        (conversionOf (progressOf s) (now (written .entry)))) r (now (written .exit)) ⌝ }
+    ensures size { λ _. ⌜ length (now (written .exit)) ≡ writtenSize ⌝ }
 {
     let before = Progress {
         taken: s.taken,
         count: s.count,
     };
-    let p = convert::convert(bytes, free, symbols, written, before);
+    let p = convert::convert(bytes, free, written, before);
     if available < p.taken {
         return Step {
             number: 14,
@@ -103,18 +98,6 @@ fn convert_next(
     }
 }
 
-// At first each symbol is written for itself.
-fn fill_symbols(symbols: &mut [u8; SYMBOLS])
-    requires size { ⌜ length (now symbols) ≡ 64 ⌝ }
-    ensures symbols { λ _. ⌜ now (symbols .exit) ≡ below 64 ⌝ }
-{
-    let mut x: u8 = 0;
-    while x < 64 {
-        symbols[x as usize] = x;
-        x += 1;
-    }
-}
-
 // The whole walk. What is written until a refusal stays in the buffer.
 pub fn walk(text: &[u8], written: &mut [u8]) -> WalkEnd
     requires formed { ⌜ (length (now text) ≤ 49152) × AllFormed (textRecords (now text))
@@ -123,8 +106,6 @@ pub fn walk(text: &[u8], written: &mut [u8]) -> WalkEnd
 {
     let mut free = [0u8; SYMBOLS];
     let available = fresh::fill_free(text, &mut free);
-    let mut symbols = [0u8; SYMBOLS];
-    fill_symbols(&mut symbols);
     let mut s = Step {
         number: 0,
         taken: 0,
@@ -135,7 +116,7 @@ pub fn walk(text: &[u8], written: &mut [u8]) -> WalkEnd
     let mut i = 0;
     while i < count {
         let bytes = dialect::record_at(text, i);
-        s = convert_next(bytes, &free, available, &mut symbols, written, i, s);
+        s = convert_next(bytes, &free, available, written, i, s);
         if s.number != 0 {
             return WalkEnd {
                 number: s.number,

@@ -93,6 +93,10 @@ fn small_jobs() {
     report(b"S\x00\x00\x00U\x00\x40\x00", false);
     report(b"S\x00\x00\x00T\x1f\x3f\x1f", false);
     report(b"S\x00\x00\x00T\x20\x3f\x1f", false);
+    // symbols 63 and 64 in either place of a pair
+    report(b"S\x00\x00\x00P\x00\x3f\x3f", false);
+    report(b"S\x00\x00\x00P\x00\x40\x3f", false);
+    report(b"S\x00\x00\x00P\x00\x3f\x40", false);
 }
 
 fn repeats() {

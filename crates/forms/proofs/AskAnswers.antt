@@ -10,20 +10,20 @@ use Rattle.job.specs.Job.{fieldOf, jobOf}
 use Rattle.job.proofs.AcceptedFacts.{in-range, initial-below, job-initial}
 use Rattle.saturation.specs.Table.{doneAt}
 use Rattle.forms.specs.declared.Asked.{Asked}
-use Rattle.forms.specs.Operations.{acceptsOn, askCheck, askOf}
+use Rattle.forms.specs.Operations.{acceptsOn, askCheck, askOf, askBy}
 use Rattle.forms.specs.Inside.AcceptanceParts.{flagged, FinishFlags}
 use Rattle.forms.proofs.Flags.{flag-is-one}
 use Rattle.forms.proofs.Routes.{finish-cong}
 
 pub ask-refused : (job table form : List ℕ) (c : Checked) → c ≡ askCheck job table form → (c .number ≡ 0 → ⊥) →
     _≡_ {A = Asked} (record { number = c .number; place = c .place; accepted = false }) (askOf job table form)
-unfolding askOf
+unfolding askBy
 ask-refused job table form c e refusal = rw (← e, ne-eqb (c .number) 0 refusal)
 
 pub ask-answered : (job table form : List ℕ) (b : Bool) → askCheck job table form .number ≡ 0 →
     b ≡ acceptsOn (jobOf job) table form →
     _≡_ {A = Asked} (record { number = 0; place = 0; accepted = b }) (askOf job table form)
-unfolding askOf
+unfolding askBy
 ask-answered job table form b none e = rw (eq-eqb _ 0 none, e)
 
 -- the initial state is below 32

@@ -14,7 +14,7 @@ use Rattle.saturation.proofs.Reasons.Runs.{run-reasons-fit}
 use Rattle.saturation.proofs.Starts.StartCounts.{run-finished-smallest}
 use Rattle.saturation.proofs.Steps.StepLaws.{finishes}
 use Rattle.forms.specs.Listing.{Listed, recordsAt}
-use Rattle.forms.specs.Operations.{acceptsOn, explainCheck, finishedFrom, listedFor, explainOf}
+use Rattle.forms.specs.Operations.{acceptsOn, explainCheck, finishedFrom, listedFor, explainOf, explainBy}
 use Rattle.forms.specs.Inside.AcceptanceParts.{FormFits}
 use Rattle.forms.specs.Inside.ExplainParts.{Explainable}
 use Rattle.forms.specs.Theorems.ListingTheorems.{RecordsSay}
@@ -54,7 +54,7 @@ module _ (job : List ℕ) (m : Lent) (form : List ℕ) (unrefused : explainCheck
 
   pub explain-lists : acceptsOn (jobOf job) (finishedFrom (jobOf job) m .table) form ≡ true → (out : List ℕ) →
       Explains (jobOf job) (finishedFrom (jobOf job) m) form (explainOf job m form out)
-  unfolding listedFor explainOf
+  unfolding listedFor explainBy
   explain-lists accepts out =
       let f : Lent = finishedFrom (jobOf job) m in
       let l : Listed = listedFor (jobOf job) f form in

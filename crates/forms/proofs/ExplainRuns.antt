@@ -9,6 +9,7 @@ use Rattle.saturation.specs.Start.{started}
 use Rattle.saturation.specs.Advance.{steps}
 use Rattle.saturation.proofs.Starts.StartLaws.{started-length, started-length-reasons}
 use Rattle.forms.specs.Operations.{explainCheck, ExplainOutcome, explainLeaves, explainFinished, explainOf}
+use Rattle.forms.specs.Operations.{explainBy}
 use Rattle.forms.specs.Inside.AcceptanceParts.{FormFits}
 use Rattle.forms.specs.Inside.ExplainParts.{Explainable}
 use Rattle.forms.proofs.ExplainChecks.{explain-passed}
@@ -22,7 +23,7 @@ module _ (job : List ℕ) (m : Lent) (form : List ℕ) {c : Checked} (checked : 
   pub refuses : (out : List ℕ) → (c .number ≡ 0 → ⊥) →
       explainLeaves (record { number = c .number; place = c .place; accepted = false; records = 0 }) m out
       ≡ explainOf job m form out
-  unfolding explainOf
+  unfolding explainBy
   refuses out refusal = rw (← checked, ne-eqb (c .number) 0 refusal)
 
   -- nothing is refused
@@ -51,5 +52,5 @@ module _ (job : List ℕ) (m : Lent) (form : List ℕ) {c : Checked} (checked : 
 
         pub explains : (out : List ℕ) {after : ExplainOutcome} → after ≡ explainFinished (jobOf job) m₂ form out →
             after ≡ explainOf job m form out
-        unfolding explainOf
+        unfolding explainBy
         explains out e = rw (eq-eqb _ 0 (ap (λ k. k .number) (sym checked) ∙ none), ← finished) e

@@ -4,12 +4,12 @@ use Rattle.grammar.proofs.Basics.{_≡_, refl, _∙_, ap, true, List, _∷_, []
 use Rattle.grammar.proofs.Basics.{add-zero, arith, ltb, length, getD, eq-eqb, ne-eqb, ltb-false, lt-ltb, le-ltb, cases}
 use Rattle.job.specs.declared.Checked.{Checked}
 use Rattle.job.specs.Accepted.{Accepted}
-use Rattle.job.specs.Check.{checkOf, orElse, fullLimits, refused, accepted, shortTable}
+use Rattle.job.specs.Check.{jobCheck, orElse, refused, accepted, shortTable}
 use Rattle.job.proofs.Accepted.{number-accepted}
 use Rattle.job.proofs.JobChecks.{both-pass, not-short}
 use Rattle.saturation.specs.Table.{tableSize}
 use Rattle.forms.specs.Acceptance.{SymbolsFit}
-use Rattle.forms.specs.Operations.{firstOver, formCheck, askCheck}
+use Rattle.forms.specs.Operations.{firstOver, formCheck, askCheck, askCheckBy}
 use Rattle.forms.specs.Inside.AcceptanceParts.{FormFits}
 
 -- the symbols before a position fit
@@ -76,22 +76,22 @@ form-number form = cases (ltb 64 (length form)) (λ t. rw t (omega arith)) (λ t
 
 -- the ways through the checks of ask: a short table, a refused job, and the form's own
 pub ask-short : (job table form : List ℕ) → length table < tableSize → askCheck job table form ≡ refused 10 1
-unfolding askCheck
+unfolding askCheckBy
 ask-short job table form h = rw (lt-ltb (length table) tableSize h)
 
 module _ (job table form : List ℕ) (c : Checked) (long : tableSize ≤ length table)
-    (e : c ≡ checkOf fullLimits true job) where
+    (e : c ≡ jobCheck true job) where
   -- on a long table the job's check alone comes before the form's
-  job-first : orElse (orElse (shortTable table) (checkOf fullLimits true job)) (formCheck form)
+  job-first : orElse (orElse (shortTable table) (jobCheck true job)) (formCheck form)
       ≡ orElse c (formCheck form)
   job-first = rw (le-ltb (length table) tableSize long, e)
 
   pub ask-job : (c .number ≡ 0 → ⊥) → askCheck job table form ≡ c
-  unfolding askCheck
+  unfolding askCheckBy
   ask-job refusal = job-first ∙ rw (ne-eqb (c .number) 0 refusal)
 
   pub ask-form : c .number ≡ 0 → askCheck job table form ≡ formCheck form
-  unfolding askCheck
+  unfolding askCheckBy
   ask-form none = job-first ∙ rw (eq-eqb (c .number) 0 none)
 
 -- what ask has made sure of where it refuses nothing
@@ -101,7 +101,7 @@ pub record AskPassed (job table form : List ℕ) : Type 0 where
   pub form-fits : FormFits form
 
 pub ask-passed : (job table form : List ℕ) → askCheck job table form .number ≡ 0 → AskPassed job table form
-unfolding askCheck
+unfolding askCheckBy
 ask-passed job table form e =
     let (c, f) = both-pass _ (formCheck form) e in
     let (t, j) = both-pass (shortTable table) _ c in

@@ -6,12 +6,12 @@ use lib.Dec.{eqb, ltb}
 use lib.ListN.{length, drop}
 use Rattle.grammar.specs.Rule.{Rule}
 use Rattle.job.specs.declared.Checked.{Checked}
-use Rattle.job.specs.Check.{checkOf, fullLimits, shortTable, refused, accepted, orElse}
+use Rattle.job.specs.Check.{Checks, jobCheck, shortTable, refused, accepted, orElse}
 use Rattle.job.specs.Job.{Job, jobOf}
 use Rattle.saturation.specs.Table.{Lent, doneAt}
 use Rattle.saturation.specs.Start.{started}
 use Rattle.saturation.specs.Advance.{steps}
-use Rattle.saturation.specs.Operations.{machineCheck}
+use Rattle.saturation.specs.Operations.{machineCheckBy}
 use Rattle.forms.specs.declared.Asked.{Asked}
 use Rattle.forms.specs.declared.Explained.{Explained}
 use Rattle.forms.specs.Acceptance.{isAccepted, route}
@@ -26,24 +26,40 @@ firstOver i (x ∷ xs) = cond (ltb 63 x) (refused 11 i) (firstOver (suc i) xs)
 unfoldable pub formCheck : List ℕ → Checked
 formCheck form = cond (ltb 64 (length form)) (refused 12 (length form)) (firstOver 0 form)
 
--- the checks of ask: the table, the job with an I, the form
-unfoldable pub askCheck : List ℕ → List ℕ → List ℕ → Checked
-askCheck job table form = orElse (orElse (shortTable table) (checkOf fullLimits true job)) (formCheck form)
+-- the checks of ask: the table, the job with an I, the form; by the checks of a job
+unfoldable pub askCheckBy : Checks → List ℕ → List ℕ → List ℕ → Checked
+askCheckBy checks job table form = orElse (orElse (shortTable table) (checks true job)) (formCheck form)
+
+-- and by the checks of this product
+abbrev pub askCheck : List ℕ → List ℕ → List ℕ → Checked
+askCheck = askCheckBy jobCheck
 
 -- Forms and listings: the form is accepted by the job's initial and final states on the done transitions of a table
 abbrev pub acceptsOn : Job → List ℕ → List ℕ → Bool
 acceptsOn J table form = isAccepted (J .final) (doneAt table) (J .initial) form
 
+-- Refused calls: a refused ask says no
+abbrev pub askRefused : Checked → Asked
+askRefused c = record { number = c .number; place = c .place; accepted = false }
+
 -- what ask answers
-unfoldable pub askOf : List ℕ → List ℕ → List ℕ → Asked
-askOf job table form =
-    cond (eqb (askCheck job table form .number) 0)
+unfoldable pub askBy : Checks → List ℕ → List ℕ → List ℕ → Asked
+askBy checks job table form =
+    cond (eqb (askCheckBy checks job table form .number) 0)
     (record { number = 0; place = 0; accepted = acceptsOn (jobOf job) table form })
-    (record { number = askCheck job table form .number; place = askCheck job table form .place; accepted = false })
+    (askRefused (askCheckBy checks job table form))
+
+-- and by the checks of this product
+abbrev pub askOf : List ℕ → List ℕ → List ℕ → Asked
+askOf = askBy jobCheck
 
 -- the checks of explain but for 13: table and reasons, the job with an I, the form
-unfoldable pub explainCheck : List ℕ → Lent → List ℕ → Checked
-explainCheck job m form = orElse (machineCheck job m) (formCheck form)
+unfoldable pub explainCheckBy : Checks → List ℕ → Lent → List ℕ → Checked
+explainCheckBy checks job m form = orElse (machineCheckBy checks job m) (formCheck form)
+
+-- and by the checks of this product
+abbrev pub explainCheck : List ℕ → Lent → List ℕ → Checked
+explainCheck = explainCheckBy jobCheck
 
 -- what explain leaves: the answer, table and reasons, and the listing
 pub record ExplainOutcome : Type 0 where
@@ -86,8 +102,12 @@ explainFinished J m form out =
     (explainLeaves (record { number = 0; place = 0; accepted = false; records = 0 }) m out)
 
 -- From papers to product: explain a form
-unfoldable pub explainOf : List ℕ → Lent → List ℕ → List ℕ → ExplainOutcome
-explainOf job m form out =
-    cond (eqb (explainCheck job m form .number) 0)
+unfoldable pub explainBy : Checks → List ℕ → Lent → List ℕ → List ℕ → ExplainOutcome
+explainBy checks job m form out =
+    cond (eqb (explainCheckBy checks job m form .number) 0)
     (explainFinished (jobOf job) (finishedFrom (jobOf job) m) form out)
-    (explainRefused (explainCheck job m form) m out)
+    (explainRefused (explainCheckBy checks job m form) m out)
+
+-- and by the checks of this product
+abbrev pub explainOf : List ℕ → Lent → List ℕ → List ℕ → ExplainOutcome
+explainOf = explainBy jobCheck

@@ -12,9 +12,9 @@ use Rattle.grammar.specs.Counting.{one-if, NoRepeat}
 use Rattle.job.specs.declared.JobRecord.{JobRecord}
 use Rattle.job.specs.declared.Limits.{Limits}
 use Rattle.job.specs.declared.Checked.{Checked}
-use Rattle.job.specs.Format.{recordsOf, rowOf, isRule, has, byteI, byteS}
+use Rattle.job.specs.Format.{ClassTable, fieldClasses, recordsOf, rowOf, isRule, has, byteI, byteS}
 use Rattle.job.specs.Check.{refused, accepted, fullLimits, countKind, countRules, fault, firstFault, missing}
-use Rattle.job.specs.Check.{checkOf, orElse}
+use Rattle.job.specs.Check.{checkOf, jobCheck, orElse}
 use Rattle.job.specs.Accepted.{Accepted}
 use Rattle.job.specs.Theorems.InRange.{CheckAccepts}
 use Rattle.job.proofs.Members.{has-member, member-has}
@@ -35,10 +35,10 @@ within : (b : Bool) (limit n : ℕ) → one-if b + n ≤ limit → (b && leb lim
 within true limit n h = lt-leb limit n (omega arith)
 within false limit n h = refl
 
-module _ (limits : Limits) where
+module _ (classes : ClassTable) (limits : Limits) where
   -- a record is sound with those seen exactly where those are sound and it has no fault after them
   module _ (seen : List JobRecord) (r : JobRecord) where
-    grows : Sound limits seen → fault limits seen r ≡ 0 → Sound limits (r ∷ seen)
+    grows : Sound classes limits seen → fault classes limits seen r ≡ 0 → Sound classes limits (r ∷ seen)
     unfolding fault countKind countRules NoRepeat
     grows s e =
         let (unknown, e) = test-passed _ _ _ e in
@@ -58,7 +58,7 @@ module _ (limits : Limits) where
           few-rules = one-more (isRule r) _ _ (s .few-rules) full;
         }
 
-    faultless : Sound limits (r ∷ seen) → fault limits seen r ≡ 0
+    faultless : Sound classes limits (r ∷ seen) → fault classes limits seen r ≡ 0
     unfolding fault countKind countRules NoRepeat
     faultless s =
         rw (
@@ -71,31 +71,34 @@ module _ (limits : Limits) where
         )
 
     -- and so behind them
-    pub grows-behind : Sound limits seen → fault limits seen r ≡ 0 → Sound limits (seen ++ (r ∷ []))
-    grows-behind s e = sound-permutes limits (List·Permᴰ·append-comm (r ∷ []) seen) (grows s e)
+    pub grows-behind : Sound classes limits seen → fault classes limits seen r ≡ 0
+        → Sound classes limits (seen ++ (r ∷ []))
+    grows-behind s e = sound-permutes (List·Permᴰ·append-comm (r ∷ []) seen) (grows s e)
 
   -- the walk from those seen on refuses nothing exactly where all are sound
-  unrefused-sound : (seen rs : List JobRecord) → Sound limits seen → firstFault limits seen rs .number ≡ 0
-      → Sound limits (seen ++ rs)
+  unrefused-sound : (seen rs : List JobRecord) → Sound classes limits seen
+      → firstFault classes limits seen rs .number ≡ 0
+      → Sound classes limits (seen ++ rs)
   unfolding firstFault
   unrefused-sound seen [] s e = rw append-nil s
   unrefused-sound seen (r ∷ rs) s e =
-      cases (eqb (fault limits seen r) 0)
+      cases (eqb (fault classes limits seen r) 0)
       (λ t.
       let grown = grows-behind seen r s (eqb-true _ _ t) in
       rw append-assoc at (unrefused-sound (seen ++ (r ∷ [])) rs grown (rw t at e)))
       (λ t. absurd (eqb-false _ _ t (rw t at e)))
 
-  sound-unrefused : (seen rs : List JobRecord) → Sound limits (seen ++ rs) → firstFault limits seen rs ≡ accepted
+  sound-unrefused : (seen rs : List JobRecord) → Sound classes limits (seen ++ rs)
+      → firstFault classes limits seen rs ≡ accepted
   unfolding firstFault
   sound-unrefused seen [] s = refl
   sound-unrefused seen (r ∷ rs) s =
-      let front = sound-front limits (r ∷ seen) rs (sound-permutes limits (Permᴰ·middle r seen rs) s) in
-      rw (eq-eqb (fault limits seen r) 0 (faultless seen r front))
+      let front = sound-front (r ∷ seen) rs (sound-permutes (Permᴰ·middle r seen rs) s) in
+      rw (eq-eqb (fault classes limits seen r) 0 (faultless seen r front))
       (sound-unrefused (seen ++ (r ∷ [])) rs (rw append-assoc s))
 
   -- the empty list of records is sound
-  pub empty-sound : Sound limits []
+  pub empty-sound : Sound classes limits []
   unfolding countKind countRules NoRepeat
   empty-sound =
       record {
@@ -107,11 +110,11 @@ module _ (limits : Limits) where
         few-rules = omega arith;
       }
 
--- what a job that passes the checks is, with the limits
-pub record Passed (limits : Limits) (needed : Bool) (job : List ℕ) : Type 0 where
+-- what a job that passes the checks is, with table and limits
+pub record Passed (classes : ClassTable) (limits : Limits) (needed : Bool) (job : List ℕ) : Type 0 where
   pub within : length job ≤ 16384
   pub whole : length job % 4 ≡ 0
-  pub sound : Sound limits (recordsOf job)
+  pub sound : Sound classes limits (recordsOf job)
   pub start : 0 < countKind byteS (recordsOf job)
   pub initial : needed ≡ true → 0 < countKind byteI (recordsOf job)
 
@@ -133,21 +136,22 @@ not-missing true n h = ne-eqb n 0 (omega (arith, h refl))
 not-missing false n h = refl
 
 -- what is left of the checks of a job that passes those without I
-pub only-initial : (limits : Limits) (needed : Bool) {other : Bool} {job : List ℕ} → Passed limits other job
-    → checkOf limits needed job
+pub only-initial : (classes : ClassTable) (limits : Limits) (needed : Bool) {other : Bool} {job : List ℕ}
+    → Passed classes limits other job
+    → checkOf classes limits needed job
     ≡ cond (needed && eqb (countKind byteI (recordsOf job)) 0) (refused 9 (length (recordsOf job))) accepted
 unfolding checkOf missing
-only-initial limits needed {job = job} a =
+only-initial classes limits needed {job = job} a =
     rw (
       le-ltb 16384 (length job) (a .within),
       eq-eqb (length job % 4) 0 (a .whole),
-      sound-unrefused limits [] (recordsOf job) (a .sound),
+      sound-unrefused classes limits [] (recordsOf job) (a .sound),
       ne-eqb (countKind byteS (recordsOf job)) 0 (omega (arith, a .start)),
     )
 
 -- a job is accepted exactly where it is `Passed`; number 0 says as much
-module _ (limits : Limits) (needed : Bool) (job : List ℕ) where
-  number-passed : checkOf limits needed job .number ≡ 0 → Passed limits needed job
+module _ (classes : ClassTable) (limits : Limits) (needed : Bool) (job : List ℕ) where
+  number-passed : checkOf classes limits needed job .number ≡ 0 → Passed classes limits needed job
   unfolding checkOf missing
   number-passed e =
       let rs = recordsOf job in
@@ -159,29 +163,30 @@ module _ (limits : Limits) (needed : Bool) (job : List ℕ) where
       record {
         within = ltb-false _ _ long;
         whole = eqb-true _ _ (not-false _ broken);
-        sound = unrefused-sound limits [] rs (empty-sound limits) unrefused;
+        sound = unrefused-sound classes limits [] rs (empty-sound classes limits) unrefused;
         start = pos-of-ne-zero (eqb-false _ _ start);
         initial = λ t. pos-of-ne-zero (eqb-false _ _ (rw t at initial));
       }
 
-  pub check-passed : checkOf limits needed job ≡ accepted → Passed limits needed job
+  pub check-passed : checkOf classes limits needed job ≡ accepted → Passed classes limits needed job
   check-passed e = number-passed (ap (λ (c : Checked). c .number) e)
 
-  pub passed-check : Passed limits needed job → checkOf limits needed job ≡ accepted
-  passed-check a = rw (only-initial limits needed a, not-missing needed (countKind byteI (recordsOf job)) (a .initial))
+  pub passed-check : Passed classes limits needed job → checkOf classes limits needed job ≡ accepted
+  passed-check a =
+      rw (only-initial classes limits needed a, not-missing needed (countKind byteI (recordsOf job)) (a .initial))
 
--- at the full limits this is `Accepted`
-passed-accepted : {needed : Bool} {job : List ℕ} → Passed fullLimits needed job → Accepted needed job
+-- at the table and the limits of the product this is `Accepted`
+passed-accepted : {needed : Bool} {job : List ℕ} → Passed fieldClasses fullLimits needed job → Accepted needed job
 passed-accepted p = search (le-antisymm, p .initial)
 
-pub accepted-passed : {needed : Bool} {job : List ℕ} → Accepted needed job → Passed fullLimits needed job
+pub accepted-passed : {needed : Bool} {job : List ℕ} → Accepted needed job → Passed fieldClasses fullLimits needed job
 accepted-passed a = search (le-of-eq, sym, a .initial-if-needed)
 
-pub accepted-check : {needed : Bool} {job : List ℕ} → Accepted needed job → checkOf fullLimits needed job ≡ accepted
-accepted-check {needed} {job} a = passed-check fullLimits needed job (accepted-passed a)
+pub accepted-check : {needed : Bool} {job : List ℕ} → Accepted needed job → jobCheck needed job ≡ accepted
+accepted-check {needed} {job} a = passed-check fieldClasses fullLimits needed job (accepted-passed a)
 
 pub check-accepts : CheckAccepts
-check-accepts needed job = (λ e. passed-accepted (check-passed fullLimits needed job e), accepted-check)
+check-accepts needed job = (λ e. passed-accepted (check-passed fieldClasses fullLimits needed job e), accepted-check)
 
-pub number-accepted : (needed : Bool) (job : List ℕ) → checkOf fullLimits needed job .number ≡ 0 → Accepted needed job
-number-accepted needed job e = passed-accepted (number-passed fullLimits needed job e)
+pub number-accepted : (needed : Bool) (job : List ℕ) → jobCheck needed job .number ≡ 0 → Accepted needed job
+number-accepted needed job e = passed-accepted (number-passed fieldClasses fullLimits needed job e)

@@ -3,7 +3,7 @@
 use Rattle.grammar.proofs.Basics.{_≡_, refl, inl, inr, true, Bool, List, _∷_, [], List·Memᴰ, List·Memᴰ·head}
 use Rattle.grammar.proofs.Basics.{List·Memᴰ·tail, Memᴰ·of-map, ℕ, _<_, arith, eqb, length-map, eqb-true, cases}
 use Rattle.job.specs.declared.JobRecord.{JobRecord}
-use Rattle.job.specs.Format.{recordsOf, badField, byteT, byteI, byteF, byteS}
+use Rattle.job.specs.Format.{fieldClasses, recordsOf, badField, byteT, byteI, byteF, byteS}
 use Rattle.job.specs.Check.{countKind}
 use Rattle.job.specs.Accepted.{Accepted}
 use Rattle.job.specs.Job.{fieldOf, ruleOf, sortedRules, jobOf, jobOfRecords}
@@ -22,7 +22,7 @@ shape-in-range r (unit-shape k f) = rw (says-unit r k) (omega arith)
 shape-in-range r (pair-shape k f) = rw (says-pair r k) (omega arith)
 
 -- a state that a record names is one of 32
-named-within : (r : JobRecord) (q : ℕ) → badField r ≡ 0 → NamesState r q → q < 32
+named-within : (r : JobRecord) (q : ℕ) → badField fieldClasses r ≡ 0 → NamesState r q → q < 32
 named-within r q e (inl (k, inl p)) = rw p (fields-fit byteT r e k .0)
 named-within r q e (inl (k, inr p)) = rw p (fields-fit byteT r e k .2)
 named-within r q e (inr (inl k, p)) = rw p (fields-fit byteI r e k .0)

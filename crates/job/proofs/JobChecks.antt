@@ -4,8 +4,8 @@ use Rattle.grammar.proofs.Basics.{_≡_, refl, ap, true, false, Bool, _&&_, con
 use Rattle.grammar.proofs.Basics.{length, cases}
 use Rattle.job.specs.declared.Checked.{Checked}
 use Rattle.job.specs.declared.Limits.{Limits}
-use Rattle.job.specs.Format.{recordsOf, byteI}
-use Rattle.job.specs.Check.{countKind, refused, accepted, checkOf, fullLimits}
+use Rattle.job.specs.Format.{fieldClasses, recordsOf, byteI}
+use Rattle.job.specs.Check.{countKind, refused, accepted, checkOf, fullLimits, jobCheck}
 use Rattle.job.specs.Accepted.{Accepted}
 use Rattle.job.specs.Order.{SameRecords}
 use Rattle.job.specs.Show.{partOf, shownPart, shownOf}
@@ -16,19 +16,19 @@ pub use Rattle.job.proofs.Accepted.{both-pass}
 
 -- The two runs: without an I, the other calls' 9 is the same in both runs
 pub check-alike : (needed : Bool) {a b : List ℕ} → SameRecords a b → Accepted false a
-    → checkOf fullLimits needed a ≡ checkOf fullLimits needed b
+    → jobCheck needed a ≡ jobCheck needed b
 check-alike needed same ok =
     rw (
-      only-initial fullLimits needed (accepted-passed ok),
-      only-initial fullLimits needed (accepted-passed (accepted-permutes same ok)),
+      only-initial fieldClasses fullLimits needed (accepted-passed ok),
+      only-initial fieldClasses fullLimits needed (accepted-passed (accepted-permutes same ok)),
       count-kind-permutes byteI (same .permuted),
       always-permutes length (λ x l m e. ap suc e) (λ x y l. refl) (same .permuted),
     )
 
 -- so such a job is refused by 9 at most
-pub check-number : (needed : Bool) {job : List ℕ} → Accepted false job → checkOf fullLimits needed job .number ≤ 9
+pub check-number : (needed : Bool) {job : List ℕ} → Accepted false job → jobCheck needed job .number ≤ 9
 check-number needed {job} ok =
-    rw (only-initial fullLimits needed (accepted-passed ok))
+    rw (only-initial fieldClasses fullLimits needed (accepted-passed ok))
     (cases (needed && eqb (countKind byteI (recordsOf job)) 0) (λ t. rw t (omega arith)) (λ t. rw t (omega arith)))
 
 -- The two runs: showing gives both runs the empty part
@@ -43,6 +43,6 @@ not-short false place e = refl
 
 -- the limits of a call are the full ones
 pub at-full-limits :
-    {l : Limits} (needed : Bool) (job : List ℕ) {c : Checked} → l ≡ fullLimits → c ≡ checkOf l needed job →
-    c ≡ checkOf fullLimits needed job
+    {l : Limits} (needed : Bool) (job : List ℕ) {c : Checked} → l ≡ fullLimits →
+    c ≡ checkOf fieldClasses l needed job → c ≡ jobCheck needed job
 at-full-limits needed job e h = rw e at h

@@ -19,3 +19,4 @@ pub mod JobChecks
 pub mod Clearing
 pub mod KeyRules
 pub mod GivenTriples
+pub mod Wider

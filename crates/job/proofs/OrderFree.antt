@@ -3,7 +3,7 @@
 use Rattle.grammar.proofs.Basics.{_≡_, false, Bool, List, map, List·Permᴰ, ℕ}
 use Rattle.job.specs.declared.JobRecord.{JobRecord}
 use Rattle.job.specs.declared.Limits.{Limits}
-use Rattle.job.specs.Format.{recordsOf, byteI, byteS, noRecord}
+use Rattle.job.specs.Format.{fieldClasses, recordsOf, byteI, byteS, noRecord}
 use Rattle.job.specs.Check.{fullLimits}
 use Rattle.job.specs.Accepted.{Accepted}
 use Rattle.job.specs.Job.{ruleOf, transitionRecord, finalRecord, jobOf, jobOfRecords}
@@ -17,9 +17,9 @@ use Rattle.job.proofs.SortedRules.{sorted-permutes}
 use Rattle.job.proofs.Ranks.{sorted-rising, rising-counts}
 
 pub accepted-alike : AcceptedAlike
-accepted-alike limits needed a b same e =
-    let it = check-passed limits needed a e in
-    passed-check limits needed b
+accepted-alike classes limits needed a b same e =
+    let it = check-passed classes limits needed a e in
+    passed-check classes limits needed b
     (search (
       ← same .long,
       sound-permutes,
@@ -29,7 +29,7 @@ accepted-alike limits needed a b same e =
     ))
 
 -- sound records say the same in any order
-sound-same : {limits : Limits} {l m : List JobRecord} → List·Permᴰ l m → Sound limits l
+sound-same : {limits : Limits} {l m : List JobRecord} → List·Permᴰ l m → Sound fieldClasses limits l
     → jobOfRecords l ≡ jobOfRecords m
 unfolding jobOfRecords
 sound-same d s =
@@ -45,12 +45,12 @@ sound-same d s =
 
 pub same-job : SameJob
 unfolding jobOf
-same-job limits a b same e = sound-same (same .permuted) (check-passed limits false a e .sound)
+same-job limits a b same e = sound-same (same .permuted) (check-passed fieldClasses limits false a e .sound)
 
 -- the same two laws over `Accepted`
 pub accepted-permutes : {needed : Bool} {a b : List ℕ} → SameRecords a b → Accepted needed a → Accepted needed b
 accepted-permutes {needed} {a} {b} same ok =
-    check-accepts needed b .0 (accepted-alike fullLimits needed a b same (accepted-check ok))
+    check-accepts needed b .0 (accepted-alike fieldClasses fullLimits needed a b same (accepted-check ok))
 
 pub accepted-same-job : {needed : Bool} {a b : List ℕ} → SameRecords a b → Accepted needed a → jobOf a ≡ jobOf b
 unfolding jobOf
@@ -58,5 +58,5 @@ accepted-same-job same ok = sound-same (same .permuted) (accepted-passed ok .sou
 
 pub rank-counts : RankCounts
 rank-counts limits job e i h =
-    let s : Sound limits (recordsOf job) = check-passed limits false job e .sound in
+    let s : Sound fieldClasses limits (recordsOf job) = check-passed fieldClasses limits false job e .sound in
     rising-counts noRecord _ (sorted-rising (recordsOf job) (s .fitting) (s .distinct)) i h

@@ -5,8 +5,8 @@ use Rattle.grammar.proofs.Basics.{and-right}
 use Rattle.job.specs.declared.JobRecord.{JobRecord}
 use Rattle.job.specs.declared.Limits.{Limits}
 use Rattle.job.specs.declared.Checked.{Checked}
-use Rattle.job.specs.Format.{recordsOf, byteI, byteS}
-use Rattle.job.specs.Check.{countKind, fault, recordPlace, firstFault, missing, checkOf, fullLimits}
+use Rattle.job.specs.Format.{fieldClasses, recordsOf, byteI, byteS}
+use Rattle.job.specs.Check.{countKind, fault, recordPlace, firstFault, missing, checkOf, fullLimits, jobCheck}
 use Rattle.job.specs.Show.{partOf, shownPart}
 use Rattle.job.proofs.Records.{records-counted}
 
@@ -19,11 +19,11 @@ either true p q = p
 either false p q = q
 
 of-records : (limits : Limits) (seen rs : List JobRecord)
-    → NamesBelow (length seen + length rs) (firstFault limits seen rs)
+    → NamesBelow (length seen + length rs) (firstFault fieldClasses limits seen rs)
 unfolding firstFault recordPlace
 of-records limits seen [] = omega arith
 of-records limits seen (r ∷ rs) =
-    either (eqb (fault limits seen r) 0)
+    either (eqb (fault fieldClasses limits seen r) 0)
     (λ h k. omega (arith, of-records limits (seen ++ (r ∷ [])) rs h k, length-append seen (r ∷ []))) (omega arith)
 
 of-missing : (n : ℕ) (needed : Bool) (rs : List JobRecord) → NamesBelow n (missing needed rs)
@@ -34,32 +34,33 @@ of-missing n needed rs =
 
 -- so its four bytes stand in the job, and the job is not too long
 module _ (limits : Limits) (needed : Bool) (job : List ℕ)
-    (h : 3 ≤ checkOf limits needed job .number) (k : checkOf limits needed job .number ≤ 7) where
+    (h : 3 ≤ checkOf fieldClasses limits needed job .number)
+    (k : checkOf fieldClasses limits needed job .number ≤ 7) where
   not-long : length job ≤ 16384
   unfolding checkOf
   not-long = cases (ltb 16384 (length job)) (λ t. omega (arith, rw t at h)) (ltb-false 16384 (length job))
 
-  named : checkOf limits needed job .place < length (recordsOf job)
+  named : checkOf fieldClasses limits needed job .place < length (recordsOf job)
   unfolding checkOf
   named =
       let rs = recordsOf job in
       either (ltb 16384 (length job)) (omega arith)
       (either (not (eqb (length job % 4) 0)) (omega arith)
-      (either (eqb (firstFault limits [] rs .number) 0) (of-missing (length rs) needed rs)
+      (either (eqb (firstFault fieldClasses limits [] rs .number) 0) (of-missing (length rs) needed rs)
       (λ h k. omega (arith, of-records limits [] rs h k))))
       h k
 
-  record-within : 4 * checkOf limits needed job .place + 4 ≤ length job
+  record-within : 4 * checkOf fieldClasses limits needed job .place + 4 ≤ length job
   record-within = omega (arith, named, records-counted job)
 
-  pub place-below : checkOf limits needed job .place < 4096
+  pub place-below : checkOf fieldClasses limits needed job .place < 4096
   place-below = omega (arith, not-long, record-within)
 
 -- so the part that is shown stands in the job
 pub part-within : (job : List ℕ) → shownPart job .offset + shownPart job .length ≤ length job
 unfolding shownPart partOf
 part-within job =
-    let n = checkOf fullLimits false job .number in
+    let n = jobCheck false job .number in
     cases (leb 3 n && leb n 7)
     (λ t. rw t (search (record-within fullLimits false job, and-left, and-right, leb-true)))
     (λ t. rw t (omega arith))

@@ -7,7 +7,7 @@ use Rattle.grammar.specs.Rule.{empty, unit, pair}
 use Rattle.job.specs.declared.JobRecord.{JobRecord}
 use Rattle.job.specs.declared.FieldClass.{FieldClass}
 use Rattle.job.specs.declared.FieldClass.the-variants.{Zero, Variable, Symbol, State}
-use Rattle.job.specs.Format.{rowOf, classAt, inClass, badField, isRule, byteE, byteU, byteP}
+use Rattle.job.specs.Format.{fieldClasses, rowOf, classAt, inClass, badField, isRule, byteE, byteU, byteP}
 use Rattle.job.specs.Job.{ruleOf, sortKey}
 use Rattle.job.proofs.Members.{record-path}
 
@@ -43,17 +43,18 @@ of-class State x e = ltb-true x 32 e
 -- the fields of a record of kind k are of the classes of that kind
 abbrev pub Fits : ℕ → JobRecord → Type 0
 Fits k r =
-    Of (classAt (rowOf k) 0) (r .first) × Of (classAt (rowOf k) 1) (r .second) × Of (classAt (rowOf k) 2) (r .third)
+    Of (classAt fieldClasses (rowOf k) 0) (r .first) × Of (classAt fieldClasses (rowOf k) 1) (r .second)
+    × Of (classAt fieldClasses (rowOf k) 2) (r .third)
 
-pub fields-fit : (k : ℕ) (r : JobRecord) → badField r ≡ 0 → r .kind ≡ k → Fits k r
+pub fields-fit : (k : ℕ) (r : JobRecord) → badField fieldClasses r ≡ 0 → r .kind ≡ k → Fits k r
 unfolding badField
 fields-fit k r e h =
     let (f, e) = test-passed _ 0 _ (rw h at e) in
     let (s, e) = test-passed _ 1 _ e in
     let (t, e) = test-passed _ 2 0 e in (
-      of-class (classAt (rowOf k) 0) _ (not-false _ f),
-      of-class (classAt (rowOf k) 1) _ (not-false _ s),
-      of-class (classAt (rowOf k) 2) _ (not-false _ t),
+      of-class (classAt fieldClasses (rowOf k) 0) _ (not-false _ f),
+      of-class (classAt fieldClasses (rowOf k) 1) _ (not-false _ s),
+      of-class (classAt fieldClasses (rowOf k) 2) _ (not-false _ t),
     )
 
 -- the three shapes of a rule's record
@@ -62,7 +63,7 @@ pub data RuleShape (r : JobRecord) : Type 0 where
   unit-shape : r .kind ≡ byteU → Fits byteU r → RuleShape r
   pair-shape : r .kind ≡ byteP → Fits byteP r → RuleShape r
 
-pub rule-shape : (r : JobRecord) → badField r ≡ 0 → isRule r ≡ true → RuleShape r
+pub rule-shape : (r : JobRecord) → badField fieldClasses r ≡ 0 → isRule r ≡ true → RuleShape r
 rule-shape r e h =
     ⊎-elim
     (λ eu. ⊎-elim
@@ -84,7 +85,8 @@ last-byte : (x y a b : ℕ) → a < 256 → b < 256 → x * 256 + a ≡ y * 256 
 last-byte x y a b p q e = omega arith
 
 -- so the key tells rules that fit apart
-pub key-apart : (a b : JobRecord) → badField a ≡ 0 → isRule a ≡ true → badField b ≡ 0 → isRule b ≡ true
+pub key-apart : (a b : JobRecord) → badField fieldClasses a ≡ 0 → isRule a ≡ true
+    → badField fieldClasses b ≡ 0 → isRule b ≡ true
     → sortKey a ≡ sortKey b
     → a ≡ b
 key-apart a b f p g q e =

@@ -4,14 +4,14 @@ use Rattle.grammar.proofs.Basics.{_≡_, refl, sym, ⊎-elim, List, _∷_, [], 
 use Rattle.grammar.proofs.Basics.{List·Permᴰ, Permᴰ·symm, _<_, le-of-lt, eq-or-lt-of-le, arith, ltb, leb, ltb-false}
 use Rattle.grammar.proofs.Basics.{ltb-true, le-leb, leb-true, lt-leb, cases}
 use Rattle.job.specs.declared.JobRecord.{JobRecord}
-use Rattle.job.specs.Format.{badField, isRule}
+use Rattle.job.specs.Format.{fieldClasses, badField, isRule}
 use Rattle.job.specs.Job.{sortKey, insert, sortedRules}
 use Rattle.job.proofs.Permutation.{member-permutes, permutes}
 use Rattle.job.proofs.Shapes.{key-apart}
 
 -- the fields of each record fit
 abbrev pub Fitting : List JobRecord → Type 0
-Fitting rs = (r : JobRecord) → List·Memᴰ r rs → badField r ≡ 0
+Fitting rs = (r : JobRecord) → List·Memᴰ r rs → badField fieldClasses r ≡ 0
 
 -- two inserts change places: that of the smaller key and that of the larger
 below-commutes : (a b : JobRecord) (l : List JobRecord) → sortKey a < sortKey b

@@ -5,23 +5,25 @@ use native.Mathlib.Nat.{le-trans, le-of-eq}
 use Rattle.grammar.specs.Counting.{NoRepeat}
 use Rattle.job.specs.declared.JobRecord.{JobRecord}
 use Rattle.job.specs.declared.Limits.{Limits}
-use Rattle.job.specs.Format.{rowOf, badField, byteI, byteS}
+use Rattle.job.specs.Format.{ClassTable, rowOf, badField, byteI, byteS}
 use Rattle.job.specs.Check.{countKind, countRules}
 use Rattle.job.proofs.Permutation.{member-permutes, count-kind-permutes, count-rules-permutes}
 use Rattle.job.proofs.NoRepeat.{no-repeat-permutes, no-repeat-front}
 
 -- each record is of a known kind and its fields fit, none stands twice, at most one S and one I, no more rules than
 -- the limit
-pub record Sound (limits : Limits) (rs : List JobRecord) : Type 0 where
+pub record Sound (classes : ClassTable) (limits : Limits) (rs : List JobRecord) : Type 0 where
   pub known : (r : JobRecord) → List·Memᴰ r rs → rowOf (r .kind) < 7
-  pub fitting : (r : JobRecord) → List·Memᴰ r rs → badField r ≡ 0
+  pub fitting : (r : JobRecord) → List·Memᴰ r rs → badField classes r ≡ 0
   pub distinct : NoRepeat rs
   pub one-start : countKind byteS rs ≤ 1
   pub one-initial : countKind byteI rs ≤ 1
   pub few-rules : countRules rs ≤ limits .rules
 
-pub sound-permutes : (limits : Limits) {l m : List JobRecord} → List·Permᴰ l m → Sound limits l → Sound limits m
-sound-permutes limits d s =
+pub sound-permutes : {classes : ClassTable} {limits : Limits} {l m : List JobRecord} → List·Permᴰ l m
+    → Sound classes limits l
+    → Sound classes limits m
+sound-permutes d s =
     search (
       s .known,
       s .fitting,
@@ -46,6 +48,7 @@ unfolding countRules
 count-rules-front [] m = omega arith
 count-rules-front (r ∷ rs) m = omega (arith, count-rules-front rs m)
 
-pub sound-front : (limits : Limits) (l m : List JobRecord) → Sound limits (l ++ m) → Sound limits l
-sound-front limits l m s =
+pub sound-front : {classes : ClassTable} {limits : Limits} (l m : List JobRecord) → Sound classes limits (l ++ m)
+    → Sound classes limits l
+sound-front l m s =
     search (s .known, s .fitting, Memᴰ·append-left, no-repeat-front, le-trans, count-kind-front, count-rules-front)

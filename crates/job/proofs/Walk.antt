@@ -8,17 +8,18 @@ use Rattle.job.specs.declared.JobRecord.{JobRecord}
 use Rattle.job.specs.declared.Limits.{Limits}
 use Rattle.job.specs.declared.Checked.{Checked}
 use Rattle.job.specs.declared.Tally.{Tally}
-use Rattle.job.specs.Format.{rowOf, badField, has, isRule, byteI, byteS, noRecord}
+use Rattle.job.specs.Format.{fieldClasses, rowOf, badField, has, isRule, byteI, byteS, noRecord}
 use Rattle.job.specs.Check.{refused, recordPlace, countKind, countRules, fault, firstFault, missing, orElse}
 use Rattle.job.specs.Inside.Walk.{formFault, orderFault, tallyOf, counted, missingBy}
 
 -- the number that refuses a record, by the parts that the code computes
 fault-parts : (limits : Limits) (seen : List JobRecord) (r : JobRecord)
-    → fault limits seen r
+    → fault fieldClasses limits seen r
     ≡ cond (eqb (formFault r) 0) (cond (has seen r) 5 (orderFault limits (tallyOf seen) r)) (formFault r)
 unfolding fault formFault orderFault tallyOf
 fault-parts limits seen r =
-    cases (eqb (rowOf (r .kind)) 7) (λ t. rw t) (λ t. cases (eqb (badField r) 0) (λ u. rw (t, u)) (λ u. rw (t, u)))
+    cases (eqb (rowOf (r .kind)) 7) (λ t. rw t)
+    (λ t. cases (eqb (badField fieldClasses r) 0) (λ u. rw (t, u)) (λ u. rw (t, u)))
 
 one-if-within : (b : Bool) → one-if b ≤ 1
 one-if-within true = omega arith
@@ -56,12 +57,12 @@ tally-snoc seen r = simp (kind-snoc, rules-snoc)
 
 -- the answer of all checks of the records
 abbrev pub answerOf : Limits → Bool → List JobRecord → Checked
-answerOf limits needed rs = orElse (firstFault limits [] rs) (missing needed rs)
+answerOf limits needed rs = orElse (firstFault fieldClasses limits [] rs) (missing needed rs)
 
 -- what is known where the walk stands at record i, with those before it counted
 pub record Walked (limits : Limits) (rs : List JobRecord) (i : ℕ) (seen : Tally) : Type 0 where
   pub tally : seen ≡ tallyOf (take i rs)
-  pub rest : firstFault limits [] rs ≡ firstFault limits (take i rs) (drop i rs)
+  pub rest : firstFault fieldClasses limits [] rs ≡ firstFault fieldClasses limits (take i rs) (drop i rs)
 
 pub walked-none : (limits : Limits) (rs : List JobRecord)
     → Walked limits rs 0 (record { rules = 0; starts = 0; initials = 0 })
@@ -85,12 +86,13 @@ pub record Read (limits : Limits) (rs : List JobRecord) (i : ℕ) (seen : Tally)
 
 module _ {limits : Limits} {rs : List JobRecord} {i : ℕ} {seen : Tally} {r : JobRecord} {form : ℕ}
     (a : Read limits rs i seen r form) where
-  pub fault-here : fault limits (take i rs) (getD rs i noRecord)
+  pub fault-here : fault fieldClasses limits (take i rs) (getD rs i noRecord)
       ≡ cond (eqb form 0) (cond (has (take i rs) r) 5 (orderFault limits seen r)) form
   fault-here = rw (← a .here, a .walked .tally, a .formed) (fault-parts limits (take i rs) r)
 
   -- record i is refused
-  pub refused-here : (needed : Bool) {n : ℕ} {c : Checked} → fault limits (take i rs) (getD rs i noRecord) ≡ n
+  pub refused-here : (needed : Bool) {n : ℕ} {c : Checked}
+      → fault fieldClasses limits (take i rs) (getD rs i noRecord) ≡ n
       → (n ≡ 0 → ⊥)
       → c ≡ refused n (recordPlace n i r) → c ≡ answerOf limits needed rs
   unfolding firstFault
@@ -107,7 +109,7 @@ module _ {limits : Limits} {rs : List JobRecord} {i : ℕ} {seen : Tally} {r : J
       )
 
   -- record i is not refused
-  pub walked-on : {t : Tally} → fault limits (take i rs) (getD rs i noRecord) ≡ 0 → t ≡ counted seen r
+  pub walked-on : {t : Tally} → fault fieldClasses limits (take i rs) (getD rs i noRecord) ≡ 0 → t ≡ counted seen r
       → Walked limits rs (i + 1) t
   unfolding firstFault
   walked-on e q =

@@ -6,7 +6,7 @@ use Prim.Native.Nat.{ℕ, _%_, _<_, _≤_}
 use lib.ListN.{length}
 use Rattle.grammar.specs.Counting.{NoRepeat}
 use Rattle.job.specs.declared.JobRecord.{JobRecord}
-use Rattle.job.specs.Format.{recordsOf, rowOf, badField, byteI, byteS}
+use Rattle.job.specs.Format.{fieldClasses, recordsOf, rowOf, badField, byteI, byteS}
 use Rattle.job.specs.Check.{countKind, countRules}
 
 -- Refused calls, 1 to 9: whole records, each of a known kind and with its fields in their classes, none twice, one S,
@@ -15,7 +15,7 @@ pub record Accepted (needed : Bool) (job : List ℕ) : Type 0 where
   pub within : length job ≤ 16384
   pub whole : length job % 4 ≡ 0
   pub known : (r : JobRecord) → List·Memᴰ r (recordsOf job) → rowOf (r .kind) < 7
-  pub fitting : (r : JobRecord) → List·Memᴰ r (recordsOf job) → badField r ≡ 0
+  pub fitting : (r : JobRecord) → List·Memᴰ r (recordsOf job) → badField fieldClasses r ≡ 0
   pub distinct : NoRepeat (recordsOf job)
   pub one-start : countKind byteS (recordsOf job) ≡ 1
   pub one-initial : countKind byteI (recordsOf job) ≤ 1

@@ -8,7 +8,7 @@ use Rattle.grammar.specs.Counting.{one-if}
 use Rattle.job.specs.declared.JobRecord.{JobRecord}
 use Rattle.job.specs.declared.Limits.{Limits}
 use Rattle.job.specs.declared.Checked.{Checked}
-use Rattle.job.specs.Format.{recordsOf, rowOf, badField, isRule, has, byteI, byteS}
+use Rattle.job.specs.Format.{ClassTable, fieldClasses, recordsOf, rowOf, badField, isRule, has, byteI, byteS}
 
 -- The job: at most 256 rules
 abbrev pub fullLimits : Limits
@@ -49,10 +49,10 @@ isSecond seen r =
 -- Refused calls: each record is tried for 3 to 7, in this order, before the next record. The number that refuses a
 -- record after those seen, 0 if none: 3 an unknown kind byte; 4 a field outside its class; 5 the same four bytes
 -- earlier; 6 a second S or I; 7 one rule more than the limit
-unfoldable pub fault : Limits → List JobRecord → JobRecord → ℕ
-fault limits seen r =
+unfoldable pub fault : ClassTable → Limits → List JobRecord → JobRecord → ℕ
+fault classes limits seen r =
     cond (eqb (rowOf (r .kind)) 7) 3
-    (cond (not (eqb (badField r) 0)) 4
+    (cond (not (eqb (badField classes r) 0)) 4
     (cond (has seen r) 5
     (cond (isSecond seen r) 6 (cond (isRule r && leb (limits .rules) (countRules seen)) 7 0))))
 
@@ -61,11 +61,11 @@ unfoldable pub recordPlace : ℕ → ℕ → JobRecord → ℕ
 recordPlace number index r = index
 
 -- the first record that is refused, after those seen
-unfoldable pub firstFault : Limits → List JobRecord → List JobRecord → Checked
-firstFault limits seen [] = accepted
-firstFault limits seen (r ∷ rs) =
-    cond (eqb (fault limits seen r) 0) (firstFault limits (seen ++ (r ∷ [])) rs)
-    (refused (fault limits seen r) (recordPlace (fault limits seen r) (length seen) r))
+unfoldable pub firstFault : ClassTable → Limits → List JobRecord → List JobRecord → Checked
+firstFault classes limits seen [] = accepted
+firstFault classes limits seen (r ∷ rs) =
+    cond (eqb (fault classes limits seen r) 0) (firstFault classes limits (seen ++ (r ∷ [])) rs)
+    (refused (fault classes limits seen r) (recordPlace (fault classes limits seen r) (length seen) r))
 
 -- Refused calls, 8 and 9, on records of which none is refused: no S, and no I where one is needed
 unfoldable pub missing : Bool → List JobRecord → Checked
@@ -77,9 +77,17 @@ missing needed rs =
 abbrev pub orElse : Checked → Checked → Checked
 orElse c d = cond (eqb (c .number) 0) d c
 
--- Refused calls: 2 comes first, then 1, then the records; `needed`: whether an I is needed
-unfoldable pub checkOf : Limits → Bool → List ℕ → Checked
-checkOf limits needed job =
+-- checks of a job, by whether an I is needed and by the job's bytes
+abbrev pub Checks : Type 0
+Checks = Bool → List ℕ → Checked
+
+-- Refused calls: 2 comes first, then 1, then the records, by a table of classes and limits
+unfoldable pub checkOf : ClassTable → Limits → Checks
+checkOf classes limits needed job =
     cond (ltb 16384 (length job)) (refused 2 (length job))
     (cond (not (eqb (length job % 4) 0)) (refused 1 (length job / 4))
-    (orElse (firstFault limits [] (recordsOf job)) (missing needed (recordsOf job))))
+    (orElse (firstFault classes limits [] (recordsOf job)) (missing needed (recordsOf job))))
+
+-- Refused calls, 1 to 9: by the table and the limits of The job
+abbrev pub jobCheck : Checks
+jobCheck = checkOf fieldClasses fullLimits

@@ -51,21 +51,25 @@ rowOf k =
     (cond (eqb k byteP) 2
     (cond (eqb k byteT) 3 (cond (eqb k byteI) 4 (cond (eqb k byteF) 5 (cond (eqb k byteS) 6 7))))))
 
--- The job: the class of each of the three fields, for each of the seven kinds
-abbrev pub fieldClasses : List (List FieldClass)
+-- a table of classes: a row for each kind, with the class of each of its three fields
+abbrev pub ClassTable : Type 0
+ClassTable = List (List FieldClass)
+
+-- The job: the classes of the seven kinds
+abbrev pub fieldClasses : ClassTable
 fieldClasses =
     (Variable ∷ Zero ∷ Zero ∷ [])
     ∷ (Variable ∷ Symbol ∷ Zero ∷ [])
-    ∷ (Variable ∷ Variable ∷ Variable ∷ [])
+    ∷ (Variable ∷ Symbol ∷ Symbol ∷ [])
     ∷ (State ∷ Symbol ∷ State ∷ [])
     ∷ (State ∷ Zero ∷ Zero ∷ [])
     ∷ (State ∷ Zero ∷ Zero ∷ [])
     ∷ (Variable ∷ Zero ∷ Zero ∷ [])
     ∷ []
 
--- the class of field 0, 1 or 2 in a row of the table
-abbrev pub classAt : ℕ → ℕ → FieldClass
-classAt row field = getD (getD fieldClasses row []) field Zero
+-- the class of field 0, 1 or 2 in a row of a table
+abbrev pub classAt : ClassTable → ℕ → ℕ → FieldClass
+classAt classes row field = getD (getD classes row []) field Zero
 
 -- The job: variables are 0 to 31, terminals 32 to 63, and a symbol is either; states are 0 to 31
 abbrev pub inClass : FieldClass → ℕ → Bool
@@ -74,12 +78,12 @@ inClass Variable x = ltb x 32
 inClass Symbol x = ltb x 64
 inClass State x = ltb x 32
 
--- the first field, 1 to 3, that is not of its class; 0 for none
-unfoldable pub badField : JobRecord → ℕ
-badField r =
-    cond (not (inClass (classAt (rowOf (r .kind)) 0) (r .first))) 1
-    (cond (not (inClass (classAt (rowOf (r .kind)) 1) (r .second))) 2
-    (cond (not (inClass (classAt (rowOf (r .kind)) 2) (r .third))) 3 0))
+-- the first field, 1 to 3, that is not of the class that a table gives it; 0 for none
+unfoldable pub badField : ClassTable → JobRecord → ℕ
+badField classes r =
+    cond (not (inClass (classAt classes (rowOf (r .kind)) 0) (r .first))) 1
+    (cond (not (inClass (classAt classes (rowOf (r .kind)) 1) (r .second))) 2
+    (cond (not (inClass (classAt classes (rowOf (r .kind)) 2) (r .third))) 3 0))
 
 -- The job: records of the kinds E, U and P are rules
 abbrev pub isRule : JobRecord → Bool

@@ -6,7 +6,7 @@ use lib.Dec.{leb}
 use lib.ListN.{take, drop}
 use Rattle.job.specs.declared.Checked.{Checked}
 use Rattle.job.specs.declared.Part.{Part}
-use Rattle.job.specs.Check.{checkOf, fullLimits}
+use Rattle.job.specs.Check.{jobCheck}
 
 -- the part of a job that a check's answer names: the four bytes of the record that is refused by 3 to 7, else none
 unfoldable pub partOf : Checked → Part
@@ -16,7 +16,7 @@ partOf c =
 
 -- Refused calls: showing repeats the verdicts' check of the job, which needs no I, and names the part that it refuses
 unfoldable pub shownPart : List ℕ → Part
-shownPart job = partOf (checkOf fullLimits false job)
+shownPart job = partOf (jobCheck false job)
 
 -- and gives the bytes of that part
 unfoldable pub shownOf : List ℕ → List ℕ

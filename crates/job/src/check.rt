@@ -10,7 +10,7 @@ ghost use mathlib.Core.Path.{_≡_};
 ghost use mathlib.Core.List.{[]};
 ghost use Prim.Native.Nat.{_+_, _<_, _≤_, _%_};
 ghost use lib.ListN.{length};
-ghost use Rattle.job.specs.Format.{recordsOf};
+ghost use Rattle.job.specs.Format.{fieldClasses, recordsOf};
 ghost use Rattle.job.specs.Check.{checkOf, firstFault, missing, orElse, refused, recordPlace};
 ghost use Rattle.job.specs.Inside.Walk.{formFault, orderFault, counted, missingBy};
 
@@ -101,7 +101,7 @@ fn refuse(number: usize, index: usize, r: JobRecord) -> Checked
 // search stops at once, out of both walks.
 pub fn check_records(job: &[u8], limits: Limits, needed: bool) -> Checked
     requires whole { ⌜ (length (now job) ≤ 16384) × (length (now job) % 4 ≡ 0) ⌝ }
-    ensures checked { λ r. ⌜ r ≡ orElse (firstFault limits [] (recordsOf (now (job .entry))))
+    ensures checked { λ r. ⌜ r ≡ orElse (firstFault fieldClasses limits [] (recordsOf (now (job .entry))))
         (missing needed (recordsOf (now (job .entry)))) ⌝ }
 {
     let count = job.len() / 4;
@@ -139,7 +139,7 @@ pub fn check_records(job: &[u8], limits: Limits, needed: bool) -> Checked
 
 // All checks of a job's bytes. `needed`: whether an I record is needed.
 pub fn check(job: &[u8], limits: Limits, needed: bool) -> Checked
-    ensures checked { λ r. ⌜ r ≡ checkOf limits needed (now (job .entry)) ⌝ }
+    ensures checked { λ r. ⌜ r ≡ checkOf fieldClasses limits needed (now (job .entry)) ⌝ }
 {
     let n = job.len();
     if JOB_BYTES < n {

@@ -4,17 +4,14 @@ use crate::JobRecord;
 ghost use mathlib.Core.Path.{_≡_};
 ghost use Prim.Native.Nat.{_+_, _*_, _<_, _≤_};
 ghost use lib.ListN.{length, getD};
-ghost use Rattle.job.specs.Format.{rowOf, classAt, inClass, badField, same, isRule, recordsOf, noRecord};
+ghost use Rattle.job.specs.Format.{fieldClasses, rowOf, classAt, inClass, badField, same, isRule};
+ghost use Rattle.job.specs.Format.{recordsOf, noRecord};
 
 // The classes of the three fields, a row for each kind: E, U, P, T, I, F, S.
 const FIELD_CLASSES: [[FieldClass; 3]; 7] = [
     [FieldClass::Variable, FieldClass::Zero, FieldClass::Zero],
     [FieldClass::Variable, FieldClass::Symbol, FieldClass::Zero],
-    [
-        FieldClass::Variable,
-        FieldClass::Variable,
-        FieldClass::Variable,
-    ],
+    [FieldClass::Variable, FieldClass::Symbol, FieldClass::Symbol],
     [FieldClass::State, FieldClass::Symbol, FieldClass::State],
     [FieldClass::State, FieldClass::Zero, FieldClass::Zero],
     [FieldClass::State, FieldClass::Zero, FieldClass::Zero],
@@ -40,7 +37,7 @@ pub fn kind_row(kind: u8) -> usize
 // The class of a field in a row of the table.
 pub fn field_class(row: usize, field: usize) -> FieldClass
     requires within { ⌜ (row < 7) × (field < 3) ⌝ }
-    ensures class { λ r. ⌜ r ≡ classAt row field ⌝ }
+    ensures class { λ r. ⌜ r ≡ classAt fieldClasses row field ⌝ }
 {
     FIELD_CLASSES[row][field]
 }
@@ -60,7 +57,7 @@ pub fn in_class(class: FieldClass, value: u8) -> bool
 // Whether a byte is of the class of a field in a row of the table.
 fn field_fits(row: usize, field: usize, value: u8) -> bool
     requires within { ⌜ (row < 7) × (field < 3) ⌝ }
-    ensures says { λ ok. ⌜ ok ≡ inClass (classAt row field) value ⌝ }
+    ensures says { λ ok. ⌜ ok ≡ inClass (classAt fieldClasses row field) value ⌝ }
 {
     in_class(field_class(row, field), value)
 }
@@ -68,7 +65,7 @@ fn field_fits(row: usize, field: usize, value: u8) -> bool
 // The first field, 1 to 3, of a record of a known kind that is not of its class; 0 for none.
 pub fn bad_field(r: JobRecord) -> usize
     requires known { ⌜ rowOf (r .kind) < 7 ⌝ }
-    ensures field { λ n. ⌜ n ≡ badField r ⌝ }
+    ensures field { λ n. ⌜ n ≡ badField fieldClasses r ⌝ }
 {
     let row = kind_row(r.kind);
     if !field_fits(row, 0, r.first) {

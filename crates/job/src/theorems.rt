@@ -4,6 +4,7 @@ ghost use Rattle.job.specs.Theorems.InRange.{CheckAccepts, AcceptedInRan
 ghost use Rattle.job.specs.Theorems.OrderFree.{AcceptedAlike, SameJob};
 ghost use Rattle.job.specs.Theorems.RankCounts.{RankCounts};
 ghost use Rattle.job.specs.Theorems.StateCount.{StateCount};
+ghost use Rattle.job.specs.Theorems.WiderClasses.{PairsWidened, WiderChecks};
 
 // The checks accept a job exactly where it is accepted by what its records are, whatever their order.
 pub fn check_accepts()
@@ -33,4 +34,11 @@ pub fn rank_counts()
 // The number of states is the least that is above each state that a T, I or F record names.
 pub fn state_count_is_least()
     ensures theorem { λ r. ⌜ StateCount ⌝ }
+{}
+
+// A wider table of classes changes the checks of those jobs alone that the narrower one refuses by 4, and the job's
+// table is wider than one whose P records have variables only.
+pub fn wider_checks()
+    ensures checks { λ r. ⌜ WiderChecks ⌝ }
+    ensures pairs { λ r. ⌜ PairsWidened ⌝ }
 {}

@@ -1,6 +1,6 @@
 -- The ways through the checks of the report: the tests in turn. Assumes nothing.
 use Rattle.grammar.proofs.Basics.{_≡_, true, List, ℕ, _<_, _≤_, length, lt-ltb, le-ltb}
-use Rattle.job.specs.Check.{checkOf, fullLimits, refused}
+use Rattle.job.specs.Check.{jobCheck, refused}
 use Rattle.saturation.specs.Table.{Lent, tableSize, reasonsSize}
 use Rattle.reporting.specs.Operation.{reportCheck}
 
@@ -24,7 +24,7 @@ module _ (job : List ℕ) (m : Lent) (codes : List ℕ) where
             lt-ltb (length codes) 64 h,
           )
 
-      pub long-enough : 64 ≤ length codes → checkOf fullLimits true job ≡ reportCheck job m codes
+      pub long-enough : 64 ≤ length codes → jobCheck true job ≡ reportCheck job m codes
       unfolding reportCheck
       long-enough h =
           rw (

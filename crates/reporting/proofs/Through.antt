@@ -3,7 +3,7 @@
 use Rattle.grammar.proofs.Basics.{_≡_, refl, _∙_, sym, ap, true, false, List, _∷_, [], ℕ, _≤_, arith, ltb, length}
 use Rattle.grammar.proofs.Basics.{eq-eqb, ltb-false, le-ltb}
 use Rattle.job.specs.declared.Checked.{Checked}
-use Rattle.job.specs.Check.{checkOf, fullLimits, orElse, shortTable, shortReasons, shortCodes}
+use Rattle.job.specs.Check.{jobCheck, orElse, shortTable, shortReasons, shortCodes}
 use Rattle.job.specs.Accepted.{Accepted}
 use Rattle.job.specs.Job.{jobOf}
 use Rattle.job.proofs.Accepted.{number-accepted, accepted-check}
@@ -12,13 +12,13 @@ use Rattle.job.proofs.JobChecks.{both-pass, not-short}
 use Rattle.saturation.specs.Table.{Lent, tableSize, reasonsSize}
 use Rattle.saturation.specs.Start.{started}
 use Rattle.saturation.specs.Advance.{steps}
-use Rattle.saturation.specs.Operations.{machineCheck, startOf, advanceOf}
+use Rattle.saturation.specs.Operations.{machineCheck, startOf, startBy, advanceOf, advanceBy}
 use Rattle.saturation.proofs.MachineChecks.{long-enough}
 use Rattle.saturation.proofs.Starts.StartLaws.{started-length, started-length-reasons}
 use Rattle.saturation.proofs.Steps.StepLaws.{steps-long, finishes}
-use Rattle.forms.specs.Operations.{firstOver, formCheck, askCheck, askOf}
+use Rattle.forms.specs.Operations.{firstOver, formCheck, askCheck, askOf, askBy}
 use Rattle.forms.proofs.FormChecks.{ask-form}
-use Rattle.verdicts.specs.Operation.{verdictsCheck, verdictsOn, verdictsOf}
+use Rattle.verdicts.specs.Operation.{verdictsCheck, verdictsCheckBy, verdictsOn, verdictsOf}
 use Rattle.verdicts.proofs.Outcome.{verdicts-given}
 use Rattle.reporting.specs.Operation.{shortBuffer, reportCheck, runToEnd}
 use Rattle.reporting.specs.Theorems.{RunsThrough}
@@ -33,7 +33,7 @@ record Passed (job : List ℕ) (m : Lent) (codes : List ℕ) : Type 0 where
 report-passed : (job : List ℕ) (m : Lent) (codes : List ℕ) → reportCheck job m codes .number ≡ 0 → Passed job m codes
 unfolding reportCheck
 report-passed job m codes e =
-    let (short, j) = both-pass (shortBuffer m codes) (checkOf fullLimits true job) e in
+    let (short, j) = both-pass (shortBuffer m codes) (jobCheck true job) e in
     let (a, c) = both-pass (orElse (shortTable (m .table)) (shortReasons (m .reasons))) (shortCodes codes) short in
     let (t, r) = both-pass (shortTable (m .table)) (shortReasons (m .reasons)) a in
     record {
@@ -74,17 +74,17 @@ module _ (job : List ℕ) (ok : Accepted true job) where
       rw (le-ltb 63 (jobOf job .start) below)
 
   ask-number : (table : List ℕ) → tableSize ≤ length table → askOf job table (jobOf job .start ∷ []) .number ≡ 0
-  unfolding askOf
+  unfolding askBy
   ask-number table long =
       let form = jobOf job .start ∷ [] in
       let c = accepted-check ok in
       let z : askCheck job table form .number ≡ 0 =
-      number-of (ask-form job table form (checkOf fullLimits true job) long refl (number-of c refl)) form-passes in
+      number-of (ask-form job table form (jobCheck true job) long refl (number-of c refl)) form-passes in
       rw (eq-eqb (askCheck job table form .number) 0 z)
 
   verdicts-number : (table codes : List ℕ) → tableSize ≤ length table → 64 ≤ length codes →
       verdictsOf job table codes .answer .number ≡ 0
-  unfolding verdictsCheck verdictsOn
+  unfolding verdictsCheckBy verdictsOn
   verdicts-number table codes long enough =
       let z : verdictsCheck job table codes .number ≡ 0 =
       rw (le-ltb (length table) 65536 long, le-ltb (length codes) 64 enough, accepted-check (without-need ok)) in
@@ -92,24 +92,24 @@ module _ (job : List ℕ) (ok : Accepted true job) where
 
 module _ (job : List ℕ) (m : Lent) (z : machineCheck job m .number ≡ 0) where
   start-number : startOf job m .answer .number ≡ 0
-  unfolding startOf
+  unfolding startBy
   start-number = rw (eq-eqb (machineCheck job m .number) 0 z)
 
   start-lent : startOf job m .lent ≡ started (jobOf job) m
-  unfolding startOf
+  unfolding startBy
   start-lent = rw (eq-eqb (machineCheck job m .number) 0 z)
 
   module _ (n : ℕ) where
     advance-number : advanceOf job m n .answer .number ≡ 0
-    unfolding advanceOf
+    unfolding advanceBy
     advance-number = rw (eq-eqb (machineCheck job m .number) 0 z)
 
     advance-lent : advanceOf job m n .lent ≡ steps (jobOf job .rules) n m
-    unfolding advanceOf
+    unfolding advanceBy
     advance-lent = rw (eq-eqb (machineCheck job m .number) 0 z)
 
     advance-finished : tableSize ≤ length (m .table) → tableSize ≤ n → advanceOf job m n .answer .finished ≡ true
-    unfolding advanceOf
+    unfolding advanceBy
     advance-finished long enough =
         rw (eq-eqb (machineCheck job m .number) 0 z) (finishes (jobOf job .rules) n m long enough)
 

@@ -4,7 +4,7 @@ use mathlib.Core.Bool.{true, false, cond}
 use mathlib.Core.List.{List, [], _∷_}
 use lib.Dec.{eqb}
 use Rattle.job.specs.declared.Checked.{Checked}
-use Rattle.job.specs.Check.{checkOf, fullLimits, shortTable, shortReasons, shortCodes, orElse}
+use Rattle.job.specs.Check.{jobCheck, shortTable, shortReasons, shortCodes, orElse}
 use Rattle.job.specs.Job.{jobOf}
 use Rattle.saturation.specs.Table.{Lent, lentOf}
 use Rattle.saturation.specs.Operations.{StartOutcome, AdvanceOutcome, startOf, advanceOf}
@@ -19,7 +19,7 @@ shortBuffer m codes = orElse (orElse (shortTable (m .table)) (shortReasons (m .r
 
 -- the checks of the report: the buffers, then the job's, with an initial state
 unfoldable pub reportCheck : List ℕ → Lent → List ℕ → Checked
-reportCheck job m codes = orElse (shortBuffer m codes) (checkOf fullLimits true job)
+reportCheck job m codes = orElse (shortBuffer m codes) (jobCheck true job)
 
 -- what the report leaves: the answer, table and reasons, and the codes
 pub record ReportOutcome : Type 0 where

@@ -2,14 +2,14 @@
 -- runs and all along a run. Assumes nothing.
 use Rattle.grammar.proofs.Basics.{_≡_, true, false, Bool, cond, List, ℕ, _≤_, arith, eqb, ltb, length, cases}
 use Rattle.job.specs.declared.Checked.{Checked}
-use Rattle.job.specs.Check.{checkOf, fullLimits, shortTable, shortReasons, refused, accepted, orElse}
+use Rattle.job.specs.Check.{jobCheck, shortTable, shortReasons, refused, accepted, orElse}
 use Rattle.job.specs.Accepted.{Accepted}
 use Rattle.job.proofs.JobChecks.{check-number}
 use Rattle.saturation.specs.Table.{Lent, tableSize, reasonsSize}
-use Rattle.saturation.specs.Operations.{machineCheck}
-use Rattle.forms.specs.Operations.{formCheck, askCheck, explainCheck}
+use Rattle.saturation.specs.Operations.{machineCheck, machineCheckBy}
+use Rattle.forms.specs.Operations.{formCheck, askCheck, askCheckBy, explainCheck, explainCheckBy}
 use Rattle.forms.proofs.FormChecks.{form-number}
-use Rattle.verdicts.specs.Operation.{verdictsCheck}
+use Rattle.verdicts.specs.Operation.{verdictsCheck, verdictsCheckBy}
 use Rattle.ropeclover.specs.Call.{Call, start, advance, ask, explain, verdicts}
 use Rattle.ropeclover.specs.Alike.{SameLengths, SameCall, same-start, same-advance, same-ask, same-explain}
 use Rattle.ropeclover.specs.Alike.{same-verdicts}
@@ -23,9 +23,9 @@ callCheck job m (explain form listing) = explainCheck job m form
 callCheck job m (verdicts codes) = verdictsCheck job (m .table) codes
 
 pub call-check-alike :
-    (a b : List ℕ) → ((needed : Bool) → checkOf fullLimits needed a ≡ checkOf fullLimits needed b) → (m n : Lent) →
+    (a b : List ℕ) → ((needed : Bool) → jobCheck needed a ≡ jobCheck needed b) → (m n : Lent) →
     SameLengths m n → {c d : Call} → SameCall c d → callCheck a m c ≡ callCheck b n d
-unfolding callCheck machineCheck askCheck explainCheck verdictsCheck
+unfolding callCheck machineCheckBy askCheckBy explainCheckBy verdictsCheckBy
 call-check-alike a b e m n long same-start = rw (long .table, long .reasons, e true)
 call-check-alike a b e m n long (same-advance k) = rw (long .table, long .reasons, e true)
 call-check-alike a b e m n long (same-ask form) = rw (long .table, e true)
@@ -42,11 +42,11 @@ short-number false place = omega arith
 
 pub explain-number :
     (job : List ℕ) (m : Lent) (form : List ℕ) → Accepted false job → explainCheck job m form .number ≤ 12
-unfolding explainCheck machineCheck
+unfolding explainCheckBy machineCheckBy
 explain-number job m form ok =
     let short = orElse (shortTable (m .table)) (shortReasons (m .reasons)) in
-    either-number 12 (orElse short (checkOf fullLimits true job)) (formCheck form)
-    (either-number 12 short (checkOf fullLimits true job)
+    either-number 12 (orElse short (jobCheck true job)) (formCheck form)
+    (either-number 12 short (jobCheck true job)
     (either-number 12 (shortTable (m .table)) (shortReasons (m .reasons))
     (short-number (ltb (length (m .table)) tableSize) 1) (short-number (ltb (length (m .reasons)) reasonsSize) 2))
     (omega (arith, check-number true ok)))

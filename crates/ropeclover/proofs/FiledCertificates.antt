@@ -69,6 +69,16 @@ finite = rulesAlone finiteVariables finiteReached (ranks (2 ∷ 1 ∷ []))
 abbrev infinite : Certificate
 infinite = rulesAlone infiniteVariables infiniteReached (cycle 0 1 (0 ∷ []))
 
+-- the chain aab: S leads from 1 by ab, and so from 0 by aS; S → aS leads from S back to it
+abbrev terminals : Certificate
+terminals =
+    record {
+      transitions = (0, 32, 1) ∷ (1, 32, 2) ∷ (2, 33, 3) ∷ (1, 0, 3) ∷ (0, 0, 3) ∷ [];
+      generating = 0 ∷ [];
+      reached = 0 ∷ 1 ∷ 32 ∷ 33 ∷ [];
+      growth = cycle 0 0 [];
+    }
+
 -- the jobs with S → ε, with S → SS and without, state 0 final or not
 abbrev epsilon : Growth → Certificate
 epsilon growth = record { transitions = (0, 0, 0) ∷ []; generating = 0 ∷ []; reached = 0 ∷ []; growth = growth }
@@ -82,6 +92,7 @@ filed-grammars =
     (also _ _ infinite refl
     (also _ _ (rulesAlone (0 ∷ 1 ∷ []) (0 ∷ 32 ∷ []) unsaid) refl
     (also _ _ (rulesAlone (1 ∷ []) (0 ∷ 2 ∷ []) unsaid) refl
+    (also _ _ terminals refl
     (also _ _ (epsilon unsaid) refl
     (also _ _ (epsilon unsaid) refl
-    (also _ _ (epsilon (cycle 0 0 [])) refl (also _ _ (epsilon unsaid) refl none)))))))))
+    (also _ _ (epsilon (cycle 0 0 [])) refl (also _ _ (epsilon unsaid) refl none))))))))))

@@ -18,7 +18,7 @@ use Rattle.grammar.proofs.Certificate.{closure-exact, closure-count, closure-me
 use Rattle.grammar.proofs.CertificateVerdicts.{useful, productive-exact, in-context-exact, growing, not-growing}
 use Rattle.job.specs.Accepted.{Accepted}
 use Rattle.job.specs.Format.{recordsOf}
-use Rattle.job.specs.Check.{checkOf, fullLimits, accepted}
+use Rattle.job.specs.Check.{jobCheck, accepted}
 use Rattle.job.specs.Job.{Job, jobOf}
 use Rattle.job.specs.Theorems.InRange.{InRange}
 use Rattle.job.proofs.Accepted.{check-accepts}
@@ -44,7 +44,7 @@ says : {P : Type 0} {b : Bool} (answer : Bool) → (b ≡ true) ↔ P → Bool·
 says {b = b} true exact e = exact .0 (beq-equal b true e)
 says {b = b} false exact e = refuted exact (beq-equal b false e)
 
-passes-accepted : (needed : Bool) (job : List ℕ) → passes needed job ≡ true → checkOf fullLimits needed job ≡ accepted
+passes-accepted : (needed : Bool) (job : List ℕ) → passes needed job ≡ true → jobCheck needed job ≡ accepted
 unfolding passes
 passes-accepted needed job e =
     let (number, place) = simp decided at e in

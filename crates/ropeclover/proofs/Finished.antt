@@ -16,13 +16,14 @@ use Rattle.saturation.specs.Start.{started}
 use Rattle.saturation.specs.Step.{isFinished}
 use Rattle.saturation.specs.Advance.{steps}
 use Rattle.saturation.specs.Smallest.{Smallest, DecidesSmallest}
-use Rattle.saturation.specs.Operations.{machineCheck, startOf, advanceOf}
+use Rattle.saturation.specs.Operations.{machineCheck, startOf, startBy, advanceOf, advanceBy}
 use Rattle.saturation.proofs.MachineChecks.{machine-passed}
 use Rattle.saturation.proofs.Growing.SmallestRange.{job-in-range, smallest-states, smallest-symbol}
 use Rattle.saturation.proofs.Starts.StartCounts.{run-long, run-finished-smallest}
 use Rattle.saturation.proofs.Reasons.Runs.{run-reasons-fit}
 use Rattle.forms.specs.Acceptance.{SymbolsFit, DerivesGiven}
-use Rattle.forms.specs.Operations.{acceptsOn, askCheck, askOf, explainCheck, finishedFrom, explainFinished, explainOf}
+use Rattle.forms.specs.Operations.{acceptsOn, askCheckBy, askBy, explainCheck, finishedFrom, explainFinished}
+use Rattle.forms.specs.Operations.{explainBy}
 use Rattle.forms.proofs.AskAnswers.{initial-state}
 use Rattle.forms.proofs.ExplainListing.{finished-smallest}
 use Rattle.forms.proofs.ExplainCases.{explain-answer}
@@ -47,7 +48,7 @@ module _ (job : List ℕ) (ok : Accepted true job) where
 
   -- a done set that is the closure is the smallest closed set, and acceptance on it is derivation
   holds-smallest : (m : Lent) → tableSize ≤ length (m .table) → DecidesSmallest J (doneAt (m .table)) → Finished job m
-  unfolding askOf askCheck
+  unfolding askBy askCheckBy
   holds-smallest m long decides =
       let into : (q X r : ℕ) → Smallest J q X r → DoneSet (m .table) q X r = λ q X r c.
       let states = smallest-states J range q X r c in
@@ -80,7 +81,7 @@ module _ (job : List ℕ) where
   SinceSome m = (a : ℕ) × (s : ℕ) × (k : ℕ) × Since job m a s k
 
   advances-since : (m : Lent) (ns : List ℕ) → SinceSome m → SinceSome (advances job m ns)
-  unfolding advances advanceOf
+  unfolding advances advanceBy
   advances-since m [] some = some
   advances-since m (n ∷ ns) some =
       let (a, s, k, since) = some in
@@ -104,7 +105,7 @@ module _ (job : List ℕ) where
   smallest-marked t u same decides q X r ql xl rl = rw (same (place q X r)) (decides q X r ql xl rl)
 
   explain-right : (m : Lent) (form out : List ℕ) → explainCheck job m form .number ≡ 0 → ExplainRight job m form out
-  unfolding explainOf
+  unfolding explainBy
   explain-right m form out e =
       let (passed, fits) = explain-passed job m form _ refl e in
       let ok = passed .ok in
@@ -126,12 +127,12 @@ module _ (job : List ℕ) where
       }
 
 start-passes : (job : List ℕ) (m : Lent) → startOf job m .answer .number ≡ 0 → machineCheck job m .number ≡ 0
-unfolding startOf
+unfolding startBy
 start-passes job m e =
     cases (eqb (machineCheck job m .number) 0) (eqb-true (machineCheck job m .number) 0) (λ t. rw t at e)
 
 after-advances : AfterAdvances
-unfolding startOf advanceOf
+unfolding startBy advanceBy
 after-advances job m ns n ok fin =
     let begins = start-passes job m ok in
     let (a, s, k, since) =

@@ -5,7 +5,7 @@ use Rattle.job.specs.Job.{jobOf}
 use Rattle.saturation.specs.Table.{Lent, KeepsRest}
 use Rattle.saturation.specs.Start.{started}
 use Rattle.saturation.specs.Advance.{steps}
-use Rattle.saturation.specs.Operations.{machineCheck}
+use Rattle.saturation.specs.Operations.{machineCheck, machineCheckBy}
 use Rattle.saturation.proofs.Starts.StartLaws.{started-keeps-rest}
 use Rattle.saturation.proofs.Steps.StepLaws.{steps-keep-rest}
 
@@ -31,5 +31,5 @@ run-keeps job m n =
 -- the check of start and advance stays what it is
 pub number-stays : (job : List ℕ) (m n : Lent) → KeepsRest m n → machineCheck job m .number ≡ 0
     → machineCheck job n .number ≡ 0
-unfolding machineCheck
+unfolding machineCheckBy
 number-stays job m n k e = rw (k .long-table, k .long-reasons) e

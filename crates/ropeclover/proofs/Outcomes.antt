@@ -5,10 +5,11 @@ use Rattle.job.specs.Job.{Job, jobOf}
 use Rattle.saturation.specs.Table.{Lent, statuses}
 use Rattle.saturation.specs.Step.{isFinished}
 use Rattle.saturation.specs.Advance.{steps, stepsMade, meetingsMade}
-use Rattle.saturation.specs.Operations.{machineCheck, startOf, advanceOf}
-use Rattle.forms.specs.Operations.{acceptsOn, askCheck, askOf, explainCheck, finishedFrom, explainFinished, explainOf}
-use Rattle.verdicts.specs.Operation.{verdictsCheck, verdictsOf, verdictsOn}
-use Rattle.ropeclover.specs.Call.{Call, start, advance, ask, explain, verdicts, CallOutcome, outcomeOf, Answer}
+use Rattle.saturation.specs.Operations.{machineCheck, startBy, advanceBy}
+use Rattle.forms.specs.Operations.{acceptsOn, askCheck, askBy, explainCheck, finishedFrom, explainFinished, explainBy}
+use Rattle.verdicts.specs.Operation.{verdictsCheck, verdictsBy, verdictsOn}
+use Rattle.ropeclover.specs.Call.{Call, start, advance, ask, explain, verdicts, CallOutcome, outcomeOf}
+use Rattle.ropeclover.specs.Call.{outcomeBy, Answer}
 use Rattle.ropeclover.specs.Call.{started, advanced, asked, explained, judged}
 use Rattle.ropeclover.specs.Alike.{ownOf}
 use Rattle.ropeclover.proofs.CallChecks.{callCheck}
@@ -64,7 +65,7 @@ refused x m c = record { answer = refusal x c; own = ownOf c; lent = m }
 outcome-is : (job : List ℕ) (m : Lent) (c : Call) →
     outcomeOf job m c
     ≡ cond (eqb (callCheck job m c .number) 0) (given (jobOf job) m c) (refused (callCheck job m c) m c)
-unfolding outcomeOf callCheck given refusal startOf advanceOf askOf explainOf verdictsOf
+unfolding outcomeBy callCheck given refusal startBy advanceBy askBy explainBy verdictsBy
 outcome-is job m start = cases (eqb (machineCheck job m .number) 0) (λ t. rw t) (λ t. rw t)
 outcome-is job m (advance n) = cases (eqb (machineCheck job m .number) 0) (λ t. rw t) (λ t. rw t)
 outcome-is job m (ask form) = cases (eqb (askCheck job (m .table) form .number) 0) (λ t. rw t) (λ t. rw t)

@@ -14,6 +14,7 @@ use Rattle.forms.specs.Operations.{finishedFrom}
 use Rattle.forms.proofs.ExplainCases.{explain-settles}
 use Rattle.verdicts.specs.Operation.{verdictsOn}
 use Rattle.ropeclover.specs.Call.{Call, start, advance, ask, explain, verdicts, CallOutcome, outcomeOf, runOf}
+use Rattle.ropeclover.specs.Call.{runBy}
 use Rattle.ropeclover.specs.Counts.{Counting, idle, since, after, CountsRight, AdvanceRight, Counted, none, more}
 use Rattle.ropeclover.proofs.CallChecks.{callCheck}
 use Rattle.ropeclover.proofs.Outcomes.{given, refusal, by-check}
@@ -75,7 +76,7 @@ module _ (job : List ℕ) (ok : Accepted false job) (N : ℕ) (counted : Smalles
 
   pub run-counted : (m : Lent) (cs : List Call) (k : Counting) → Standing job m k
       → Counted (jobOf job) N k cs (runOf job m cs)
-  unfolding runOf
+  unfolding runBy
   run-counted m [] k h = none
   run-counted m (c ∷ cs) k h =
       let (stands, right) = by-check (Counts c k) job m c (given-counts m c k h)

@@ -17,6 +17,7 @@ use Rattle.verdicts.specs.Verdicts.{codeOf}
 use Rattle.verdicts.specs.Operation.{verdictsOn}
 use Rattle.verdicts.proofs.Filling.{written-rest}
 use Rattle.ropeclover.specs.Call.{Call, start, advance, ask, explain, verdicts, CallOutcome, outcomeOf, runOf}
+use Rattle.ropeclover.specs.Call.{runBy}
 use Rattle.ropeclover.specs.Alike.{ownWritten, ownOf, Unwritten, none, more}
 use Rattle.ropeclover.proofs.CallChecks.{callCheck}
 use Rattle.ropeclover.proofs.Outcomes.{given, by-check}
@@ -58,7 +59,7 @@ module _ (job : List ℕ) (ok : Accepted false job) where
   call-keeps m c = by-check (λ o. KeepsRest m (o .lent)) job m c (given-keeps m c) (λ r. keeps-refl m)
 
   pub run-kept : (m : Lent) (cs : List Call) → Unwritten m cs (runOf job m cs)
-  unfolding runOf
+  unfolding runBy
   run-kept m [] = none
   run-kept m (c ∷ cs) =
       more (call-keeps m c) (by-check (OwnKept c) job m c (λ e. given-own m c) (λ r. refl))

@@ -10,7 +10,7 @@ use Rattle.job.proofs.JobChecks.{nothing-shown}
 use Rattle.job.proofs.OrderFree.{accepted-permutes, accepted-same-job}
 use Rattle.saturation.specs.Table.{Lent}
 use Rattle.saturation.proofs.Starts.StartCounts.{smallest-is-counted}
-use Rattle.ropeclover.specs.Call.{Call, outcomeOf, runOf}
+use Rattle.ropeclover.specs.Call.{Call, outcomeOf, runOf, runBy}
 use Rattle.ropeclover.specs.Alike.{SameCalls, TraceAlike, settles}
 use Rattle.ropeclover.specs.Counts.{idle}
 use Rattle.ropeclover.specs.TwoRuns.{TwoRuns}
@@ -23,7 +23,7 @@ use Rattle.ropeclover.specs.Alike as alike
 module _ (a b : List ℕ) (records : SameRecords a b) (ok : Accepted false a) where
   trace-alike : (m n : Lent) (known : Bool) → SideBySide a b m n known → {cs ds : List Call} → SameCalls cs ds →
       TraceAlike known (runOf a m cs) (runOf b n ds)
-  unfolding runOf
+  unfolding runBy
   trace-alike m n known runs alike.none = alike.none
   trace-alike m n known runs (alike.more {c = c} {d = d} same calls) =
       let now = call-alike a b m n known runs same in

@@ -9,7 +9,7 @@ use Rattle.grammar.specs.Counting.{meetings}
 use Rattle.grammar.specs.Useful.{Productive}
 use Rattle.grammar.specs.Growing.{Growing}
 use Rattle.job.specs.Format.{byteE, byteU, byteP, byteT, byteI, byteF, byteS}
-use Rattle.job.specs.Check.{checkOf, fullLimits, accepted}
+use Rattle.job.specs.Check.{jobCheck, accepted}
 use Rattle.job.specs.Job.{Job, jobOf}
 use Rattle.saturation.specs.Smallest.{Smallest, DecidesSmallest, SmallestCount}
 use Rattle.forms.specs.Acceptance.{DerivesGiven}
@@ -57,7 +57,7 @@ AllRight J (fact ∷ facts) = Right J fact × AllRight J facts
 unfoldable pub AllFiledRight : List Filed → Type 0
 AllFiledRight [] = Unit {0}
 AllFiledRight (filed ∷ rest) =
-    (checkOf fullLimits (filed .needed) (filed .job) ≡ accepted) × AllRight (jobOf (filed .job))
+    (jobCheck (filed .needed) (filed .job) ≡ accepted) × AllRight (jobOf (filed .job))
     (filed .facts) × AllFiledRight rest
 
 -- The report program: its sample job and the six lines
@@ -125,6 +125,18 @@ emptyJob =
       facts = isEmpty true ∷ code 0 2 ∷ code 2 2 ∷ code 1 3 ∷ code 32 3 ∷ [];
     }
 
+-- S → a S, S → a b, S → c B and no rule for B, with B 1, a 32, b 33, c 34, and aab as a chain of 4 states
+abbrev pub terminalsJob : Filed
+terminalsJob =
+    record {
+      needed = true;
+      job =
+          byteS ∷ 0 ∷ 0 ∷ 0 ∷ byteP ∷ 0 ∷ 32 ∷ 0 ∷ byteP ∷ 0 ∷ 32 ∷ 33 ∷ byteP ∷ 0 ∷ 34 ∷ 1 ∷ byteI ∷ 0 ∷ 0 ∷ 0
+          ∷ byteF ∷ 3 ∷ 0 ∷ 0 ∷ byteT ∷ 0 ∷ 32 ∷ 1 ∷ byteT ∷ 1 ∷ 32 ∷ 2 ∷ byteT ∷ 2 ∷ 33 ∷ 3 ∷ [];
+      facts = states 4 ∷ examined 5 ∷ joins 2 ∷ variablesLead 0 3 (0 ∷ []) ∷ acceptsForm (0 ∷ []) true
+          ∷ isEmpty false ∷ isGrowing true ∷ code 0 1 ∷ code 1 2 ∷ code 32 1 ∷ code 33 1 ∷ code 34 3 ∷ [];
+    }
+
 -- S → ε with 0 as the initial and final state, and with S → S S besides; each also without the F record
 abbrev pub epsilonRecords : List ℕ
 epsilonRecords = byteS ∷ 0 ∷ 0 ∷ 0 ∷ byteE ∷ 0 ∷ 0 ∷ 0 ∷ byteI ∷ 0 ∷ 0 ∷ 0 ∷ []
@@ -166,6 +178,7 @@ filedGrammars =
     ∷ infiniteJob
     ∷ asideJob
     ∷ emptyJob
+    ∷ terminalsJob
     ∷ epsilonJob
     ∷ epsilonUnfinal
     ∷ doublingJob

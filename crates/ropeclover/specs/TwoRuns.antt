@@ -3,7 +3,7 @@ use mathlib.Core.Path.{_≡_}
 use Prim.Native.Nat.{ℕ}
 use mathlib.Core.Bool.{Bool, true, false}
 use mathlib.Core.List.{List, []}
-use Rattle.job.specs.Check.{checkOf, fullLimits, accepted}
+use Rattle.job.specs.Check.{jobCheck, accepted}
 use Rattle.job.specs.Job.{jobOf}
 use Rattle.job.specs.Order.{SameRecords}
 use Rattle.job.specs.Show.{shownOf}
@@ -30,6 +30,6 @@ pub record RunsAlike (a b : List ℕ) (m n : Lent) (cs ds : List Call) (known : 
 -- is by the verdicts' checks; `known` says that both runs begin with the same first part.
 unfoldable pub TwoRuns : Type 0
 TwoRuns =
-    (a b : List ℕ) → checkOf fullLimits false a ≡ accepted → SameRecords a b → (m n : Lent) → SameLengths m n →
+    (a b : List ℕ) → jobCheck false a ≡ accepted → SameRecords a b → (m n : Lent) → SameLengths m n →
     (cs ds : List Call) → SameCalls cs ds → (known : Bool) →
     (known ≡ true → SameFirst m n) → RunsAlike a b m n cs ds known

@@ -2,6 +2,7 @@
 ghost use Rattle.ropeclover.specs.Filed.{FiledGrammars};
 ghost use Rattle.ropeclover.specs.FinishedTables.{FinishedTables};
 ghost use Rattle.ropeclover.specs.TwoRuns.{TwoRuns};
+ghost use Rattle.ropeclover.specs.WiderClasses.{WiderClasses};
 
 // Demand 2: a table finished from a job's start holds the smallest set, and accepts just the forms that derive a
 // string of the automaton.
@@ -17,4 +18,10 @@ pub fn two_runs()
 // The proved grammars on file: what is said of each holds by the definitions.
 pub fn filed_grammars()
     ensures theorem { λ r. ⌜ FiledGrammars ⌝ }
+{}
+
+// Every job that was accepted while P records had variables only is accepted, and every list of calls on it gives what
+// it gave: past the checks all depends on the canonical job alone.
+pub fn wider_classes()
+    ensures theorem { λ r. ⌜ WiderClasses ⌝ }
 {}

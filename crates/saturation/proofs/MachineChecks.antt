@@ -3,11 +3,11 @@
 use Rattle.grammar.proofs.Basics.{_≡_, refl, true, false, Bool, cond, List, ℕ, _<_, _≤_, arith, length, ltb-false}
 use Rattle.grammar.proofs.Basics.{lt-ltb, le-ltb}
 use Rattle.job.specs.declared.Checked.{Checked}
-use Rattle.job.specs.Check.{checkOf, fullLimits, refused, accepted, orElse}
+use Rattle.job.specs.Check.{jobCheck, refused, accepted, orElse}
 use Rattle.job.specs.Accepted.{Accepted}
 use Rattle.job.proofs.Accepted.{number-accepted}
 use Rattle.saturation.specs.Table.{Lent, tableSize, reasonsSize}
-use Rattle.saturation.specs.Operations.{machineCheck}
+use Rattle.saturation.specs.Operations.{machineCheck, machineCheckBy}
 
 -- what a call works on
 pub record Passed (job : List ℕ) (m : Lent) : Type 0 where
@@ -24,7 +24,7 @@ each-passed false false d e = (refl, refl, e)
 
 module _ (job : List ℕ) (m : Lent) where
   pub machine-passed : (c : Checked) → c ≡ machineCheck job m → c .number ≡ 0 → Passed job m
-  unfolding machineCheck
+  unfolding machineCheckBy
   machine-passed c checked e =
       let (t, rs, d) = each-passed _ _ _ (rw checked at e) in
       record {
@@ -35,15 +35,15 @@ module _ (job : List ℕ) (m : Lent) where
 
   -- the three ways out of the checks
   pub short-table : length (m .table) < tableSize → refused 10 1 ≡ machineCheck job m
-  unfolding machineCheck
+  unfolding machineCheckBy
   short-table h = rw lt-ltb
 
   pub short-reasons : tableSize ≤ length (m .table) → length (m .reasons) < reasonsSize
       → refused 10 2 ≡ machineCheck job m
-  unfolding machineCheck
+  unfolding machineCheckBy
   short-reasons l h = rw (le-ltb, lt-ltb)
 
   pub long-enough : tableSize ≤ length (m .table) → reasonsSize ≤ length (m .reasons)
-      → checkOf fullLimits true job ≡ machineCheck job m
-  unfolding machineCheck
+      → jobCheck true job ≡ machineCheck job m
+  unfolding machineCheckBy
   long-enough l h = rw (le-ltb, le-ltb)

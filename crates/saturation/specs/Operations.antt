@@ -5,7 +5,7 @@ use mathlib.Core.Bool.{true, false, cond}
 use mathlib.Core.List.{List}
 use lib.Dec.{eqb}
 use Rattle.job.specs.declared.Checked.{Checked}
-use Rattle.job.specs.Check.{checkOf, fullLimits, shortTable, shortReasons, orElse}
+use Rattle.job.specs.Check.{Checks, jobCheck, shortTable, shortReasons, orElse}
 use Rattle.job.specs.Job.{jobOf}
 use Rattle.saturation.specs.declared.Started.{Started}
 use Rattle.saturation.specs.declared.Advanced.{Advanced}
@@ -14,9 +14,13 @@ use Rattle.saturation.specs.Start.{started}
 use Rattle.saturation.specs.Step.{isFinished}
 use Rattle.saturation.specs.Advance.{steps, stepsMade, meetingsMade}
 
--- the checks of start and advance: the buffers, then the job's, with an initial state
-unfoldable pub machineCheck : List ℕ → Lent → Checked
-machineCheck job m = orElse (orElse (shortTable (m .table)) (shortReasons (m .reasons))) (checkOf fullLimits true job)
+-- the checks of start and advance: the buffers, then the job, with an initial state; by the checks of a job
+unfoldable pub machineCheckBy : Checks → List ℕ → Lent → Checked
+machineCheckBy checks job m = orElse (orElse (shortTable (m .table)) (shortReasons (m .reasons))) (checks true job)
+
+-- and by the checks of this product
+abbrev pub machineCheck : List ℕ → Lent → Checked
+machineCheck = machineCheckBy jobCheck
 
 -- what start leaves: the answer and the lent memory
 pub record StartOutcome : Type 0 where
@@ -26,15 +30,20 @@ pub record StartOutcome : Type 0 where
 abbrev pub startLeaves : Started → Lent → StartOutcome
 startLeaves a m = record { answer = a; lent = m }
 
--- start answers the number of states; a refused start answers 0 and changes nothing lent
-unfoldable pub startOf : List ℕ → Lent → StartOutcome
-startOf job m =
-    cond (eqb (machineCheck job m .number) 0)
-    (record { answer = record { number = 0; place = 0; states = jobOf job .states }; lent = started (jobOf job) m })
-    (record {
-      answer = record { number = machineCheck job m .number; place = machineCheck job m .place; states = 0 };
-      lent = m;
-    })
+-- Refused calls: a refused start answers 0 and changes nothing lent
+abbrev pub startRefused : Checked → Lent → StartOutcome
+startRefused c m = startLeaves (record { number = c .number; place = c .place; states = 0 }) m
+
+-- start answers the number of states
+unfoldable pub startBy : Checks → List ℕ → Lent → StartOutcome
+startBy checks job m =
+    cond (eqb (machineCheckBy checks job m .number) 0)
+    (startLeaves (record { number = 0; place = 0; states = jobOf job .states }) (started (jobOf job) m))
+    (startRefused (machineCheckBy checks job m) m)
+
+-- and by the checks of this product
+abbrev pub startOf : List ℕ → Lent → StartOutcome
+startOf = startBy jobCheck
 
 -- what advance leaves
 pub record AdvanceOutcome : Type 0 where
@@ -44,10 +53,15 @@ pub record AdvanceOutcome : Type 0 where
 abbrev pub advanceLeaves : Advanced → Lent → AdvanceOutcome
 advanceLeaves a m = record { answer = a; lent = m }
 
+-- Refused calls: a refused advance counts 0, says no and changes nothing lent
+abbrev pub advanceRefused : Checked → Lent → AdvanceOutcome
+advanceRefused c m =
+    advanceLeaves (record { number = c .number; place = c .place; finished = false; steps = 0; meetings = 0 }) m
+
 -- advance answers whether the table is finished, the steps made, and the rise in pair meetings of the done transitions
-unfoldable pub advanceOf : List ℕ → Lent → ℕ → AdvanceOutcome
-advanceOf job m n =
-    cond (eqb (machineCheck job m .number) 0)
+unfoldable pub advanceBy : Checks → List ℕ → Lent → ℕ → AdvanceOutcome
+advanceBy checks job m n =
+    cond (eqb (machineCheckBy checks job m .number) 0)
     (record {
       answer =
           record {
@@ -59,14 +73,8 @@ advanceOf job m n =
           };
       lent = steps (jobOf job .rules) n m;
     })
-    (record {
-      answer =
-          record {
-            number = machineCheck job m .number;
-            place = machineCheck job m .place;
-            finished = false;
-            steps = 0;
-            meetings = 0;
-          };
-      lent = m;
-    })
+    (advanceRefused (machineCheckBy checks job m) m)
+
+-- and by the checks of this product
+abbrev pub advanceOf : List ℕ → Lent → ℕ → AdvanceOutcome
+advanceOf = advanceBy jobCheck

@@ -5,7 +5,8 @@ use Rattle.job.specs.Accepted.{Accepted}
 use Rattle.job.specs.Job.{jobOf}
 use Rattle.job.proofs.Accepted.{number-accepted}
 use Rattle.job.proofs.JobChecks.{both-pass, not-short}
-use Rattle.verdicts.specs.Operation.{verdictsCheck, verdictsLeave, verdictsOn, verdictsOf}
+use Rattle.verdicts.specs.Operation.{verdictsCheck, verdictsCheckBy, verdictsLeave, verdictsOn, verdictsOf}
+use Rattle.verdicts.specs.Operation.{verdictsBy}
 
 -- a call that is not refused
 pub record Unrefused (job table codes : List ℕ) : Type 0 where
@@ -14,7 +15,7 @@ pub record Unrefused (job table codes : List ℕ) : Type 0 where
   pub codes-long : 64 ≤ length codes
 
 pub unrefused : (job table codes : List ℕ) → verdictsCheck job table codes .number ≡ 0 → Unrefused job table codes
-unfolding verdictsCheck
+unfolding verdictsCheckBy
 unrefused job table codes e =
     let (short, checked) = both-pass _ _ e in
     let (short-table, short-codes) = both-pass _ _ short in
@@ -26,7 +27,7 @@ unrefused job table codes e =
 
 pub verdicts-given : (job table codes : List ℕ) → verdictsCheck job table codes .number ≡ 0 →
     verdictsOf job table codes ≡ verdictsOn (jobOf job) table codes
-unfolding verdictsOf
+unfolding verdictsBy
 verdicts-given job table codes z = rw (eq-eqb (verdictsCheck job table codes .number) 0 z)
 
 -- and one that is
@@ -34,5 +35,5 @@ pub verdicts-refused :
     (job table codes : List ℕ) (c : Checked) → c ≡ verdictsCheck job table codes → (c .number ≡ 0 → ⊥) →
     verdictsOf job table codes
     ≡ verdictsLeave (record { number = c .number; place = c .place; empty = false; growing = false }) table codes
-unfolding verdictsOf
+unfolding verdictsBy
 verdicts-refused job table codes c e d = rw (← e) (rw (ne-eqb (c .number) 0 d))

@@ -4,16 +4,20 @@ use mathlib.Core.Bool.{false, cond}
 use mathlib.Core.List.{List, [], _∷_}
 use lib.Dec.{eqb}
 use Rattle.job.specs.declared.Checked.{Checked}
-use Rattle.job.specs.Check.{checkOf, fullLimits, shortTable, shortCodes, orElse}
+use Rattle.job.specs.Check.{Checks, jobCheck, shortTable, shortCodes, orElse}
 use Rattle.job.specs.Clear.{cleared}
 use Rattle.job.specs.Job.{Job, jobOf}
 use Rattle.verdicts.specs.declared.Verdicts.{Verdicts}
 use Rattle.verdicts.specs.Verdicts.{codeOf, isEmpty, growing}
 
--- the checks of the verdicts: 10, then the job's without 9, as the verdicts use only the rules and S
-unfoldable pub verdictsCheck : List ℕ → List ℕ → List ℕ → Checked
-verdictsCheck job table codes =
-    orElse (orElse (shortTable table) (shortCodes codes)) (checkOf fullLimits false job)
+-- the checks of the verdicts: 10, then the job's without 9, as the verdicts use only the rules and S; by the checks of
+-- a job
+unfoldable pub verdictsCheckBy : Checks → List ℕ → List ℕ → List ℕ → Checked
+verdictsCheckBy checks job table codes = orElse (orElse (shortTable table) (shortCodes codes)) (checks false job)
+
+-- and by the checks of this product
+abbrev pub verdictsCheck : List ℕ → List ℕ → List ℕ → Checked
+verdictsCheck = verdictsCheckBy jobCheck
 
 -- the first n numbers become f i, f (i + 1) and so on, the rest stay
 unfoldable pub written : (ℕ → ℕ) → ℕ → ℕ → List ℕ → List ℕ
@@ -46,18 +50,17 @@ verdictsOn J table codes =
       codes = written (codeOf (J .rules) (J .start)) 0 64 codes;
     }
 
--- The outcome of a call. Refused calls: with a refusal each yes or no is no, and nothing lent changes.
-unfoldable pub verdictsOf : List ℕ → List ℕ → List ℕ → VerdictsOutcome
-verdictsOf job table codes =
-    cond (eqb (verdictsCheck job table codes .number) 0) (verdictsOn (jobOf job) table codes)
-    (record {
-      answer =
-          record {
-            number = verdictsCheck job table codes .number;
-            place = verdictsCheck job table codes .place;
-            empty = false;
-            growing = false;
-          };
-      table = table;
-      codes = codes;
-    })
+-- Refused calls: with a refusal each yes or no is no, and nothing lent changes
+abbrev pub verdictsRefused : Checked → List ℕ → List ℕ → VerdictsOutcome
+verdictsRefused c table codes =
+    verdictsLeave (record { number = c .number; place = c .place; empty = false; growing = false }) table codes
+
+-- The outcome of a call
+unfoldable pub verdictsBy : Checks → List ℕ → List ℕ → List ℕ → VerdictsOutcome
+verdictsBy checks job table codes =
+    cond (eqb (verdictsCheckBy checks job table codes .number) 0) (verdictsOn (jobOf job) table codes)
+    (verdictsRefused (verdictsCheckBy checks job table codes) table codes)
+
+-- and by the checks of this product
+abbrev pub verdictsOf : List ℕ → List ℕ → List ℕ → VerdictsOutcome
+verdictsOf = verdictsBy jobCheck

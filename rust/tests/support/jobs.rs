@@ -4,23 +4,62 @@ use std::collections::BTreeSet;
 
 pub type Record = [u8; 4];
 
-fn rule(random: &mut Random, variables: usize, terminals: usize) -> Record {
+/// What the bodies of the pair rules hold, which tells the jobs and forms of some tests from those of others.
+#[derive(Clone, Copy, Debug, PartialEq, Eq)]
+pub enum Pairs {
+    Variables,
+    Symbols,
+}
+
+impl Pairs {
+    /// How many variables, terminals or states a job has; where pairs hold terminals, few more often, so that these meet.
+    fn size(self, random: &mut Random) -> usize {
+        match self {
+            Pairs::Variables => *random.pick(&[1, 2, 3, 5, 8, 32]),
+            Pairs::Symbols => *random.pick(&[1, 2, 2, 3, 3, 3, 4, 5, 8, 32]),
+        }
+    }
+
+    /// A symbol of a pair's body.
+    pub fn symbol(self, random: &mut Random, variables: usize, terminals: usize) -> u8 {
+        if self == Pairs::Symbols && random.one_in(2) {
+            return 32 + random.byte_below(terminals);
+        }
+        random.byte_below(variables)
+    }
+
+    /// A form for a job, whatever the order of its records: any, or where pairs hold terminals most often the head or the body of one.
+    pub fn form(self, random: &mut Random, job: &[u8]) -> Vec<u8> {
+        let mut rules: Vec<&[u8]> = job.chunks_exact(4).filter(|record| record[0] == b'P').collect();
+        rules.sort();
+        if self == Pairs::Variables || rules.is_empty() || random.one_in(4) {
+            return form(random);
+        }
+        let [_, head, body @ ..] = *random.pick(&rules) else { unreachable!("a record has four bytes") };
+        if random.one_in(3) {
+            body.to_vec()
+        } else {
+            vec![*head]
+        }
+    }
+}
+
+fn rule(random: &mut Random, variables: usize, terminals: usize, pairs: Pairs) -> Record {
     let head = random.byte_below(variables);
     match random.below(10) {
         0 => [b'E', head, 0, 0],
         1 | 2 => [b'U', head, random.byte_below(variables), 0],
         3 | 4 => [b'U', head, 32 + random.byte_below(terminals), 0],
-        _ => [b'P', head, random.byte_below(variables), random.byte_below(variables)],
+        _ => [b'P', head, pairs.symbol(random, variables, terminals), pairs.symbol(random, variables, terminals)],
     }
 }
 
 /// An accepted job, its records in random order.
-pub fn accepted(random: &mut Random) -> Vec<u8> {
-    let sizes = [1, 2, 3, 5, 8, 32];
-    let (variables, terminals, states) = (*random.pick(&sizes), *random.pick(&sizes), *random.pick(&sizes));
+pub fn accepted(random: &mut Random, pairs: Pairs) -> Vec<u8> {
+    let (variables, terminals, states) = (pairs.size(random), pairs.size(random), pairs.size(random));
     let mut records: BTreeSet<Record> = BTreeSet::new();
     for _ in 0..random.below(40) {
-        records.insert(rule(random, variables, terminals));
+        records.insert(rule(random, variables, terminals, pairs));
     }
     for _ in 0..random.below(60) {
         let symbol = if random.one_in(3) { random.byte_below(variables) } else { 32 + random.byte_below(terminals) };
@@ -39,8 +78,8 @@ pub fn accepted(random: &mut Random) -> Vec<u8> {
 }
 
 /// A job with something wrong, most often.
-pub fn damaged(random: &mut Random) -> Vec<u8> {
-    let mut job = accepted(random);
+pub fn damaged(random: &mut Random, pairs: Pairs) -> Vec<u8> {
+    let mut job = accepted(random, pairs);
     for _ in 0..1 + random.below(3) {
         let at = random.below(job.len());
         match random.below(6) {
@@ -78,7 +117,7 @@ pub fn shuffled(random: &mut Random, job: &[u8]) -> Vec<u8> {
 }
 
 /// A form, now and then one that is refused.
-pub fn form(random: &mut Random) -> Vec<u8> {
+fn form(random: &mut Random) -> Vec<u8> {
     let length = match random.below(12) {
         0 => 64,
         1 => 65,

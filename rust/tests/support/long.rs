@@ -1,8 +1,8 @@
 //! The conversion of long bodies once more, written apart from the library and from the request's words: a record is read into a rule or kept as it
 //! is, what it needs is counted before anything is written, and each record becomes a list of its own.
 use super::jobs::Record;
-use super::machine::{check_form, classes, Refused};
-use std::collections::{BTreeMap, BTreeSet, HashSet, VecDeque};
+use super::machine::{check_form, names, Refused};
+use std::collections::{BTreeSet, HashSet, VecDeque};
 
 /// A record as it is read.
 pub enum Entry {
@@ -38,10 +38,7 @@ impl Entry {
     fn names(&self) -> Vec<u8> {
         match self {
             Entry::Rule { head, body } => body.iter().chain([head]).copied().collect(),
-            Entry::Plain(record) => {
-                let fields = classes(record[0]).unwrap().chars().zip(&record[1..]);
-                fields.filter(|(class, _)| "vx".contains(*class)).map(|(_, symbol)| *symbol).collect()
-            }
+            Entry::Plain(record) => names(record),
         }
     }
 }
@@ -67,65 +64,29 @@ fn free(entries: &[Entry]) -> VecDeque<u8> {
     (0..32).filter(|variable| !named.contains(variable)).collect()
 }
 
-/// What the second walk knows.
-struct Converter {
-    free: VecDeque<u8>,
-    /// The variable of each terminal that was met in a body of two or more.
-    letters: BTreeMap<u8, u8>,
-}
-
-impl Converter {
-    /// The terminals of a body of two or more that were not met yet, left to right.
-    fn new_terminals(&self, body: &[u8]) -> Vec<u8> {
-        let mut new = Vec::new();
-        for symbol in body.iter().filter(|symbol| **symbol > 31 && body.len() > 1) {
-            if !self.letters.contains_key(symbol) && !new.contains(symbol) {
-                new.push(*symbol);
-            }
-        }
-        new
+/// What a rule is written as, its tails taken from the free variables; nothing where these are too few.
+fn split(head: u8, body: &[u8], free: &mut VecDeque<u8>) -> Option<Vec<Record>> {
+    let [front @ .., before, last] = body else {
+        return Some(vec![body.first().map_or([b'E', head, 0, 0], |symbol| [b'U', head, *symbol, 0])]);
+    };
+    if front.len() > free.len() {
+        return None;
     }
-
-    /// What a rule is written as; nothing where too few variables are free.
-    fn write(&mut self, head: u8, body: &[u8]) -> Option<Vec<Record>> {
-        let new = self.new_terminals(body);
-        let tails = body.len().saturating_sub(2);
-        if new.len() + tails > self.free.len() {
-            return None;
-        }
-        let mut records = Vec::new();
-        for terminal in new {
-            let variable = self.free.pop_front()?;
-            records.push([b'U', variable, terminal, 0]);
-            self.letters.insert(terminal, variable);
-        }
-        let pair = |symbol: &u8| *self.letters.get(symbol).unwrap_or(symbol);
-        match body {
-            [] => records.push([b'E', head, 0, 0]),
-            [symbol] => records.push([b'U', head, *symbol, 0]),
-            [front @ .., before, last] => {
-                // Each symbol of the front goes before a tail, and the last two stand together.
-                let mut left = head;
-                for symbol in front {
-                    let tail = self.free.pop_front()?;
-                    records.push([b'P', left, pair(symbol), tail]);
-                    left = tail;
-                }
-                records.push([b'P', left, pair(before), pair(last)]);
-            }
-        }
-        Some(records)
-    }
+    // Each symbol of the front goes before a tail, and the last two stand together.
+    let tails: Vec<u8> = free.drain(..front.len()).collect();
+    let heads = [&[head][..], &tails].concat();
+    let pairs = front.iter().zip(&tails).chain([(before, last)]);
+    Some(heads.iter().zip(pairs).map(|(head, (left, right))| [b'P', *head, *left, *right]).collect())
 }
 
 /// The second walk.
 fn written(entries: &[Entry]) -> Result<Vec<Record>, Refused> {
-    let mut converter = Converter { free: free(entries), letters: BTreeMap::new() };
+    let mut free = free(entries);
     let (mut written, mut seen, mut rules) = (Vec::new(), HashSet::new(), 0);
     for (number, entry) in entries.iter().enumerate() {
         let refused = |refusal| (refusal, number as u64);
         let records = match entry {
-            Entry::Rule { head, body } => converter.write(*head, body).ok_or(refused(14))?,
+            Entry::Rule { head, body } => split(*head, body, &mut free).ok_or(refused(14))?,
             Entry::Plain(record) => vec![*record],
         };
         for record in records {

@@ -6,6 +6,7 @@ pub mod long;
 pub mod long_jobs;
 pub mod machine;
 pub mod productions;
+pub mod run;
 pub mod verdicts;
 
 #[path = "../../src/random.rs"]

@@ -27,50 +27,45 @@ pub record InFront (array : List ℕ) (n : ℕ) (xs : List ℕ) : Type 0 where
   pub alike : (k : ℕ) → getD array k 0 ≡ getD xs k 0
 
 -- the buffer that records are written to until a refusal: one for each of 4,096 records that is no rule, 256 rules,
--- and the 15 that one record is written as at most
+-- and the 7 that one record is written as at most
 abbrev pub writtenRecords : ℕ
-writtenRecords = 4367
+writtenRecords = 4359
 
 abbrev pub writtenSize : ℕ
-writtenSize = 17468
+writtenSize = 17436
 
 -- the first n records of a buffer
 abbrev pub firstRecords : ℕ → List ℕ → List JobRecord
 firstRecords n out = recordsOf (take (4 * n) out)
 
--- the conversion that the code's numbers and arrays say
-abbrev pub conversionOf : Progress → List ℕ → List ℕ → Conversion
-conversionOf p for out =
-    record { taken = p .taken; written-for = for; written = firstRecords (p .count) out }
+-- the conversion that the code's numbers and buffer say
+abbrev pub conversionOf : Progress → List ℕ → Conversion
+conversionOf p out = record { taken = p .taken; written = firstRecords (p .count) out }
 
--- the arrays have their sizes, and there is room for so many more variables and records
-pub record Room (p : Progress) (for out : List ℕ) (variables records : ℕ) : Type 0 where
-  pub for-size : length for ≡ 64
+-- the buffer has its size, and there is room for what one record takes at most: 6 variables and 7 records
+pub record Room (p : Progress) (out : List ℕ) : Type 0 where
   pub out-size : length out ≡ writtenSize
-  pub variables-left : p .taken + variables ≤ 64
-  pub records-left : p .count + records ≤ writtenRecords
+  pub variables-left : p .taken + 6 ≤ 64
+  pub records-left : p .count + 7 ≤ writtenRecords
 
 -- one record was written behind the first n
 pub record Appended (before after : List ℕ) (n : ℕ) (r : JobRecord) : Type 0 where
   pub size : length after ≡ writtenSize
   pub is : firstRecords (n + 1) after ≡ firstRecords n before ++ (r ∷ [])
 
--- what the code's numbers and arrays say now is a conversion, and at most so many variables and records came to those
--- of before
-pub record Reached (before p : Progress) (for out : List ℕ) (variables records : ℕ) (c : Conversion) : Type 0 where
-  pub is : conversionOf p for out ≡ c
-  pub for-size : length for ≡ 64
+-- what the code's numbers and buffer say now is a conversion, and no more came to those of before than a record takes
+pub record Reached (before p : Progress) (out : List ℕ) (c : Conversion) : Type 0 where
+  pub is : conversionOf p out ≡ c
   pub out-size : length out ≡ writtenSize
-  pub taken-more : p .taken ≤ before .taken + variables
-  pub count-more : p .count ≤ before .count + records
+  pub taken-more : p .taken ≤ before .taken + 6
+  pub count-more : p .count ≤ before .count + 7
 
 -- the numbers of the second walk that a conversion has
 abbrev pub progressOf : Step → Progress
 progressOf s = record { taken = s .taken; count = s .count }
 
 -- where the second walk stands before record i: the rules are counted, and at most i other records are written
-pub record Underway (free i : ℕ) (s : Step) (for out : List ℕ) : Type 0 where
-  pub for-size : length for ≡ 64
+pub record Underway (free i : ℕ) (s : Step) (out : List ℕ) : Type 0 where
   pub out-size : length out ≡ writtenSize
   pub free-few : free ≤ 32
   pub taken-few : s .taken ≤ free
@@ -79,10 +74,10 @@ pub record Underway (free i : ℕ) (s : Step) (for out : List ℕ) : Type 0 wher
   pub count-few : s .count ≤ s .rules + i
 
 -- and what the step with record i gives: the number of a refusal or, where it is 0, the conversion after the record
-pub record Stepped (free i : ℕ) (before after : Conversion) (s : Step) (for out : List ℕ) : Type 0 where
+pub record Stepped (free i : ℕ) (before after : Conversion) (s : Step) (out : List ℕ) : Type 0 where
   pub number : s .number ≡ convertFault free before after
-  pub is : s .number ≡ 0 → conversionOf (progressOf s) for out ≡ after
-  pub underway : s .number ≡ 0 → Underway free (i + 1) s for out
+  pub is : s .number ≡ 0 → conversionOf (progressOf s) out ≡ after
+  pub underway : s .number ≡ 0 → Underway free (i + 1) s out
 
 -- what the second walk gives: a refusal or, where there is none, the records that are written
 pub record WalkedTo (rs : List (List ℕ)) (w : WalkEnd) (out : List ℕ) : Type 0 where

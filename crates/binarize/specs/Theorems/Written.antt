@@ -8,7 +8,7 @@ use lib.ListN.{take}
 use Rattle.grammar.specs.Symbol.{Terminals}
 use Rattle.grammar.specs.Rule.{ProductionsOf, Among}
 use Rattle.grammar.specs.Derivation.{Derives}
-use Rattle.job.specs.Check.{checkOf, fullLimits, accepted}
+use Rattle.job.specs.Check.{jobCheck, accepted}
 use Rattle.job.specs.Job.{jobOf}
 use Rattle.binarize.specs.Dialect.{textRecords}
 use Rattle.binarize.specs.Fresh.{isNamed}
@@ -34,4 +34,4 @@ SameStrings =
 -- Long bodies: the job passes every check of start
 abbrev pub WrittenAccepted : Type 0
 WrittenAccepted =
-    (text out : List ℕ) → Succeeds text out → checkOf fullLimits true (jobWritten text out) ≡ accepted
+    (text out : List ℕ) → Succeeds text out → jobCheck true (jobWritten text out) ≡ accepted

@@ -6,7 +6,7 @@ use mathlib.Core.List.{List}
 use Prim.Native.Nat.{ℕ, _≤_, _<_}
 use lib.ListN.{length}
 use Rattle.grammar.specs.Rule.{Rule, empty, unit, pair, Among}
-use Rattle.job.specs.Check.{checkOf, accepted, fullLimits}
+use Rattle.job.specs.Check.{jobCheck, accepted}
 use Rattle.job.specs.Accepted.{Accepted}
 use Rattle.job.specs.Job.{Job, jobOf}
 
@@ -27,7 +27,7 @@ pub record InRange (J : Job) : Type 0 where
 
 -- the checks accept a job exactly where it is `Accepted`
 abbrev pub CheckAccepts : Type 0
-CheckAccepts = (needed : Bool) (job : List ℕ) → (checkOf fullLimits needed job ≡ accepted) ↔ Accepted needed job
+CheckAccepts = (needed : Bool) (job : List ℕ) → (jobCheck needed job ≡ accepted) ↔ Accepted needed job
 
 -- an accepted job is in range, and so is its initial state where an I is needed
 abbrev pub AcceptedInRange : Type 0

@@ -8,7 +8,7 @@ use lib.ListN.{length, getD}
 use Rattle.grammar.specs.Counting.{count}
 use Rattle.job.specs.declared.JobRecord.{JobRecord}
 use Rattle.job.specs.declared.Limits.{Limits}
-use Rattle.job.specs.Format.{recordsOf, noRecord}
+use Rattle.job.specs.Format.{fieldClasses, recordsOf, noRecord}
 use Rattle.job.specs.Check.{checkOf, accepted}
 use Rattle.job.specs.Job.{sortKey, sortedRules}
 
@@ -19,6 +19,6 @@ sortsBefore rs k i = ltb (sortKey (getD rs k noRecord)) (sortKey (getD rs i noRe
 -- The job: a rule's rank is its place, from 0, among the sorted rules; as many rules sort before it
 abbrev pub RankCounts : Type 0
 RankCounts =
-    (limits : Limits) (job : List ℕ) → checkOf limits false job ≡ accepted →
+    (limits : Limits) (job : List ℕ) → checkOf fieldClasses limits false job ≡ accepted →
     (i : ℕ) → i < length (sortedRules (recordsOf job)) →
     count (λ k. sortsBefore (sortedRules (recordsOf job)) k i) (length (sortedRules (recordsOf job))) ≡ i

@@ -2,7 +2,7 @@
 -- nothing.
 use Rattle.grammar.proofs.Basics.{_≡_, true, false, Bool, not, List, ℕ, eqb, ltb, not-true, not-false, needs}
 use Rattle.job.specs.declared.JobRecord.{JobRecord}
-use Rattle.job.specs.Format.{badField}
+use Rattle.job.specs.Format.{fieldClasses, badField}
 use Rattle.binarize.specs.Dialect.{isLong, headOf, bodyOf, shortOf, allBelow}
 use Rattle.binarize.specs.Check.{isMisfit}
 use Rattle.binarize.proofs.Formed.{known-kind}
@@ -20,7 +20,7 @@ module _ (bytes : List ℕ) (long : Bool) (is : long ≡ isLong bytes) where
     unfolding isMisfit
     by-its-body body below n b all = rw (← is, e, ← head, not-false variable n, all, b)
 
-  by-its-fields : (r : JobRecord) (n : ℕ) → long ≡ false → r ≡ shortOf bytes → n ≡ badField r
+  by-its-fields : (r : JobRecord) (n : ℕ) → long ≡ false → r ≡ shortOf bytes → n ≡ badField fieldClasses r
       → not (eqb n 0) ≡ isMisfit bytes
   unfolding isMisfit
   by-its-fields r n e short bad = rw (← is, e, bad, short)

@@ -8,27 +8,25 @@ use Rattle.binarize.proofs.walk.convert_next.Tie as tie
 returns : tie.Need-returns
 returns c =
     let p = c .before .before .before .before in
-    let s = p .before .before .before .before .before in
-    let r = p .convert .ensures in (
-      stepped-too-far _ _ (inTurn (s .args .free .now)) _ _ _ _ (s .pre .1) _ _ _ r (c .if1 .taken),
-      (r .for-size, r .out-size),
-    )
+    let s = p .before .before .before .before in
+    let r = p .convert .ensures in
+    (stepped-too-far _ _ (inTurn (s .args .free .now)) _ _ _ (s .pre .1) _ _ r (c .if1 .taken), r .out-size)
 
 check-from-requires : tie.Need-check-from-requires
 check-from-requires c κs =
     let p = c .before .before .before .before .before .before .before in
-    let s = p .before .before .before .before .before in
-    part-ready _ _ (inTurn (s .args .free .now)) _ _ _ _ (s .pre .1) _ _ _ (p .convert .ensures) (s .pre .0 .2)
+    let s = p .before .before .before .before in
+    part-ready _ _ (inTurn (s .args .free .now)) _ _ _ (s .pre .1) _ _ (p .convert .ensures) (s .pre .0 .1)
 
 returns-2 : tie.Need-returns-2
 returns-2 c =
     let e = c .before .before .before .before in
     let p = e .before .before .before .before in
-    let s = p .before .before .before .before .before in
+    let s = p .before .before .before .before in
     let r = p .convert .ensures in (
-      stepped _ _ (inTurn (s .args .free .now)) _ _ _ _ (s .pre .1) _ _ _ r (s .pre .0 .2) _ (e .if1 .left)
+      stepped _ _ (inTurn (s .args .free .now)) _ _ _ (s .pre .1) _ _ r (s .pre .0 .1) _ (e .if1 .left)
           (c .check-from .ensures .0) (c .check-from .ensures .1),
-      (r .for-size, r .out-size),
+      r .out-size,
     )
 
 pub convert-next-spec : {M : Type 1} → statement M

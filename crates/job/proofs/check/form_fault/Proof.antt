@@ -1,7 +1,7 @@
 -- `check::form_fault`: the tests are the definition's; a known kind has one of the seven rows. Assumes nothing.
 use Rattle.grammar.proofs.Basics.{_≡_, _∙_, sym, ℕ, _<_, eq-eqb, ne-eqb, needs}
 use Rattle.job.specs.declared.JobRecord.{JobRecord}
-use Rattle.job.specs.Format.{rowOf, badField}
+use Rattle.job.specs.Format.{fieldClasses, rowOf, badField}
 use Rattle.job.specs.Inside.Walk.{formFault}
 use Rattle.job.proofs.Shapes.{known-row}
 use Rattle.job.proofs.check.form_fault.Statement.{statement}
@@ -15,7 +15,7 @@ module _ (r : JobRecord) (row : ℕ) (is : row ≡ rowOf (r .kind)) where
   known-kind : (row ≡ 7 → ⊥) → rowOf (r .kind) < 7
   known-kind n = known-row (r .kind) (λ q. n (is ∙ q))
 
-  module _ (n : row ≡ 7 → ⊥) (bad : ℕ) (found : bad ≡ badField r) where
+  module _ (n : row ≡ 7 → ⊥) (bad : ℕ) (found : bad ≡ badField fieldClasses r) where
     misfit : (bad ≡ 0 → ⊥) → 4 ≡ formFault r
     unfolding formFault
     misfit z = rw (ne-eqb (rowOf (r .kind)) 7 (λ q. n (is ∙ q)), ← found, ne-eqb _ _ z)

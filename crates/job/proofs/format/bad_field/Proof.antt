@@ -1,27 +1,27 @@
 -- `format::bad_field`: the three tests are the definition's, at the row that the kind byte has. Assumes nothing.
 use Rattle.grammar.proofs.Basics.{_≡_, true, false, Bool, not, ℕ, needs}
 use Rattle.job.specs.declared.JobRecord.{JobRecord}
-use Rattle.job.specs.Format.{rowOf, classAt, inClass, badField}
+use Rattle.job.specs.Format.{fieldClasses, rowOf, classAt, inClass, badField}
 use Rattle.job.proofs.format.bad_field.Statement.{statement}
 use Rattle.job.proofs.format.bad_field.Tie as tie
 
 module _ (r : JobRecord) (row : ℕ) (is : row ≡ rowOf (r .kind)) (f : Bool)
-    (first : f ≡ inClass (classAt row 0) (r .first)) where
-  first-bad : not f ≡ true → 1 ≡ badField r
+    (first : f ≡ inClass (classAt fieldClasses row 0) (r .first)) where
+  first-bad : not f ≡ true → 1 ≡ badField fieldClasses r
   unfolding badField
   first-bad e = rw (← is, ← first, e)
 
-  module _ (p : not f ≡ false) (s : Bool) (second : s ≡ inClass (classAt row 1) (r .second)) where
-    second-bad : not s ≡ true → 2 ≡ badField r
+  module _ (p : not f ≡ false) (s : Bool) (second : s ≡ inClass (classAt fieldClasses row 1) (r .second)) where
+    second-bad : not s ≡ true → 2 ≡ badField fieldClasses r
     unfolding badField
     second-bad e = rw (← is, ← first, p, ← second, e)
 
-    module _ (q : not s ≡ false) (t : Bool) (third : t ≡ inClass (classAt row 2) (r .third)) where
-      third-bad : not t ≡ true → 3 ≡ badField r
+    module _ (q : not s ≡ false) (t : Bool) (third : t ≡ inClass (classAt fieldClasses row 2) (r .third)) where
+      third-bad : not t ≡ true → 3 ≡ badField fieldClasses r
       unfolding badField
       third-bad e = rw (← is, ← first, p, ← second, q, ← third, e)
 
-      none-bad : not t ≡ false → 0 ≡ badField r
+      none-bad : not t ≡ false → 0 ≡ badField fieldClasses r
       unfolding badField
       none-bad e = rw (← is, ← first, p, ← second, q, ← third, e)
 

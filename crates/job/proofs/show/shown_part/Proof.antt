@@ -3,6 +3,7 @@ use Rattle.grammar.proofs.Basics.{_≡_, _∙_, ap, false, List, ℕ, _<_, _≤
 use Rattle.job.specs.declared.Limits.{Limits}
 use Rattle.job.specs.declared.Checked.{Checked}
 use Rattle.job.specs.declared.Part.{Part}
+use Rattle.job.specs.Format.{fieldClasses}
 use Rattle.job.specs.Check.{checkOf, fullLimits}
 use Rattle.job.specs.Show.{partOf, shownPart}
 use Rattle.job.proofs.JobChecks.{at-full-limits}
@@ -10,7 +11,7 @@ use Rattle.job.proofs.RefusedPlace.{place-below}
 use Rattle.job.proofs.show.shown_part.Statement.{statement}
 use Rattle.job.proofs.show.shown_part.Tie as tie
 
-module _ (c : Checked) (l : Limits) (job : List ℕ) (is : c ≡ checkOf l false job) where
+module _ (c : Checked) (l : Limits) (job : List ℕ) (is : c ≡ checkOf fieldClasses l false job) where
   few : 3 ≤ c .number → c .number ≤ 7 → c .place < 4096
   few h k = rw is (place-below l false job (rw is at h) (rw is at k))
 

@@ -6,7 +6,7 @@ use Rattle.job.specs.Job.{jobOf}
 use Rattle.saturation.specs.Table.{Lent, statuses}
 use Rattle.saturation.specs.Step.{isFinished}
 use Rattle.saturation.specs.Advance.{steps, stepsMade, meetingsMade}
-use Rattle.saturation.specs.Operations.{machineCheck, advanceOf, advanceLeaves}
+use Rattle.saturation.specs.Operations.{machineCheck, advanceOf, advanceBy, advanceLeaves}
 use Rattle.saturation.proofs.MachineChecks.{machine-passed}
 use Rattle.saturation.proofs.operations.advance.Statement.{statement}
 use Rattle.saturation.proofs.operations.advance.Tie as tie
@@ -20,7 +20,7 @@ module _ (job : List ℕ) (m : Lent) (n : ℕ) (c : Checked) (checked : c ≡ ma
         steps = 0;
         meetings = 0;
       }) m ≡ advanceOf job m n
-  unfolding advanceOf
+  unfolding advanceBy
   refuses d = rw (← checked, ne-eqb (c .number) 0 d)
 
   advances : c .number ≡ 0 → (m' : Lent) (f : Bool) (made met : ℕ) →
@@ -33,7 +33,7 @@ module _ (job : List ℕ) (m : Lent) (n : ℕ) (c : Checked) (checked : c ≡ ma
         steps = made;
         meetings = met;
       }) m' ≡ advanceOf job m n
-  unfolding advanceOf
+  unfolding advanceBy
   advances e m' f made met lent finished counted risen =
       rw (← checked, eq-eqb (c .number) 0 e, finished, lent, counted, risen)
 

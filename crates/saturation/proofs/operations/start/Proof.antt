@@ -5,7 +5,7 @@ use Rattle.job.specs.declared.Checked.{Checked}
 use Rattle.job.specs.Job.{jobOf}
 use Rattle.saturation.specs.Table.{Lent}
 use Rattle.saturation.specs.Start.{started}
-use Rattle.saturation.specs.Operations.{machineCheck, startOf, startLeaves}
+use Rattle.saturation.specs.Operations.{machineCheck, startOf, startBy, startLeaves}
 use Rattle.saturation.proofs.MachineChecks.{machine-passed}
 use Rattle.saturation.proofs.operations.start.Statement.{statement}
 use Rattle.saturation.proofs.operations.start.Tie as tie
@@ -13,12 +13,12 @@ use Rattle.saturation.proofs.operations.start.Tie as tie
 module _ (job : List ℕ) (m : Lent) (c : Checked) (checked : c ≡ machineCheck job m) where
   refuses : (c .number ≡ 0 → ⊥) →
       startLeaves (record { number = c .number; place = c .place; states = 0 }) m ≡ startOf job m
-  unfolding startOf
+  unfolding startBy
   refuses d = rw (← checked, ne-eqb (c .number) 0 d)
 
   starts : c .number ≡ 0 → (s : ℕ) (m' : Lent) → s ≡ jobOf job .states → m' ≡ started (jobOf job) m →
       startLeaves (record { number = 0; place = 0; states = s }) m' ≡ startOf job m
-  unfolding startOf
+  unfolding startBy
   starts e s m' counted written = rw (← checked, eq-eqb (c .number) 0 e, counted, written)
 
 pub start-spec : {M : Type 1} → statement M
