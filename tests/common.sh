@@ -1,10 +1,11 @@
 # Sourced by the suites.
 
-# Builds the archive anew where it is missing or a source is newer. (.ci/run takes it away first.)
+# Builds the archive of a crate, the library's if none is named, anew where it is missing or a source is newer. (.ci/run takes it away first.)
 archive() {
-    local file=target/staticlib/libropeclover.a said
+    local name=${1:-ropeclover} said
+    local file=target/staticlib/lib$name.a
     if [ -e "$file" ] && [ -z "$(find crates crates.txt -newer "$file" -print -quit)" ]; then return; fi
-    said=$(rt staticlib ropeclover 2>&1) || { tail -n 40 <<<"$said"; return 1; }
+    said=$(rt staticlib "$name" 2>&1) || { tail -n 40 <<<"$said"; return 1; }
 }
 
 # Runs a cargo test command: a line for each of its suites, what failed in full, and the closing line 'N passed, M failed'.

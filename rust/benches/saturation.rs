@@ -1,5 +1,6 @@
 //! Speed, as ratios in one run: the library against a plain Rust worklist over the same byte table with an index of pending rows, and against
-//! gringo and SWI-Prolog where they are installed, which compute the same closure as Datalog. Results are checked equal before a time is shown.
+//! gringo and SWI-Prolog where they are installed, which compute the same closure as Datalog; the count of states by itself against a plain
+//! loop. Results are checked equal before a time is shown.
 #[path = "support/datalog.rs"]
 mod datalog;
 #[path = "support/jobs.rs"]
@@ -7,11 +8,25 @@ mod jobs;
 #[allow(dead_code)]
 #[path = "../src/random.rs"]
 mod random;
+#[path = "support/states.rs"]
+mod states;
 #[path = "support/worklist.rs"]
 mod worklist;
 
 use ropeclover::{advance, ask, explain, show_refused, start, verdicts};
+use std::hint::black_box;
 use std::time::{Duration, Instant};
+
+// What `rt staticlib benchmarks` writes.
+#[link(name = "benchmarks", kind = "static")]
+extern "C" {
+    fn ropeclover_benchmark_state_count(job: *const u8, job_len: usize) -> u64;
+}
+
+fn state_count(job: &[u8]) -> u64 {
+    // SAFETY: the export reads the bytes of the slice and nothing else.
+    unsafe { ropeclover_benchmark_state_count(job.as_ptr(), job.len()) }
+}
 
 /// The best of some runs: what is left when nothing else disturbs.
 fn time<T>(mut work: impl FnMut() -> T) -> (T, Duration) {
@@ -72,6 +87,15 @@ fn bench(name: &str, job: &[u8]) {
     row("verdicts", time(|| verdicts(job, &mut table, &mut codes).unwrap()).1, None);
 }
 
+/// The count of states by itself, without the checks that start makes before it.
+fn bench_state_count(job: &[u8]) {
+    println!("state count alone: {} records", job.len() / 4);
+    let (found, taken) = time(|| state_count(black_box(job)));
+    let (expected, other) = time(|| states::count(black_box(job)));
+    assert_eq!(found, expected, "the two counts of states differ");
+    row("state count", taken, Some(("plain loop", other)));
+}
+
 fn main() {
     // `cargo test --benches` and the like pass flags; only a plain run measures.
     if std::env::args().any(|word| word == "--test") {
@@ -80,4 +104,5 @@ fn main() {
     for (name, job) in jobs::all() {
         bench(name, &job);
     }
+    bench_state_count(&jobs::records());
 }

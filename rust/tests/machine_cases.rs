@@ -51,6 +51,45 @@ fn the_report_step_by_step() {
     assert_eq!(workspace.reasons()[2], 1 + 2);
 }
 
+/// The number of states of a job whose records stand in this order, and of the same in the opposite order.
+fn states(job: &[u8]) -> usize {
+    let (mut workspace, mut other) = (Workspace::new(), Workspace::new());
+    let turned: Vec<u8> = job.chunks(4).rev().flatten().copied().collect();
+    let found = workspace.start(job).unwrap().states();
+    assert_eq!(other.start(&turned).unwrap().states(), found);
+    found
+}
+
+/// One more than the largest state, whichever record names it; heads, labels and start symbols are no states.
+#[test]
+fn the_number_of_states() {
+    let cases = [
+        ("S 0\nI 0\n", 1),
+        ("S 0\nI 31\n", 32),
+        ("S 0\nI 2\nF 9\n", 10),
+        ("S 0\nF 4\nI 6\nF 5\n", 7),
+        ("S 0\nI 0\nF 3\nT 7 32 2\nT 6 32 6\n", 8),
+        ("S 0\nI 0\nF 3\nT 2 32 7\nT 6 32 6\n", 8),
+        ("S 0\nI 0\nT 1 63 0\nT 0 31 1\n", 2),
+        ("S 31\nI 1\nE 30\nU 29 63\nP 28 27 62\n", 2),
+    ];
+    for (text, expected) in cases {
+        assert_eq!(states(&assemble(text).unwrap()), expected, "{text}");
+    }
+    // As many records as a job may have, of which one alone names the state 17; the others stay below 9.
+    for place in [0, 1, 2_047, 4_094, 4_095] {
+        let small = (0..64).flat_map(|x| (0..81).map(move |qr| [b'T', qr / 9, x, qr % 9]));
+        let mut records: Vec<[u8; 4]> =
+            [[b'S', 0, 0, 0], [b'I', 0, 0, 0]].into_iter().chain(small).take(4_095).collect();
+        assert_eq!(states(&records.concat()), 9);
+        for large in [[b'T', 17, 40, 3], [b'T', 3, 40, 17], [b'F', 17, 0, 0]] {
+            records.insert(place, large);
+            assert_eq!(states(&records.concat()), 18, "{large:?} as record {place}");
+            records.remove(place);
+        }
+    }
+}
+
 /// A table full of one byte: with 1 everything is taken, with 2 and 3 nothing is left to do, 255 is absent.
 #[test]
 fn tables_full_of_one_byte() {

@@ -1,7 +1,8 @@
 -- The number of states is the least number above each state that a record names: a maximum over the records of a
--- maximum over each. Assumes nothing.
-use Rattle.grammar.proofs.Basics.{refl, ap, ⊎-elim, inl, inr, _||_, List, _∷_, [], List·Memᴰ, List·Memᴰ·head}
-use Rattle.grammar.proofs.Basics.{List·Memᴰ·tail, ℕ, _<_, _≤_, arith, eqb, eqb-true, cases, or-split}
+-- maximum over each; and what one record more makes of it. Assumes nothing.
+use Rattle.grammar.proofs.Basics.{_≡_, refl, ap, ⊎-elim, inl, inr, _||_, List, _∷_, [], _++_, List·Memᴰ}
+use Rattle.grammar.proofs.Basics.{List·Memᴰ·head, List·Memᴰ·tail, ℕ, _<_, _≤_, arith, eqb, eqb-true, cases, or-split}
+use Prim.Native.Nat.{max}
 use Rattle.job.specs.declared.JobRecord.{JobRecord}
 use Rattle.job.specs.Format.{byteT, byteI, byteF}
 use Rattle.job.specs.Job.{statesIn, statesOf}
@@ -44,6 +45,12 @@ states-least (r ∷ rs) s above =
       record-least r s (λ q. above r q (List·Memᴰ·head refl)),
       states-least rs s (λ x q m. above x q (List·Memᴰ·tail m)),
     )
+
+-- one record more, behind the others
+pub states-behind : (rs : List JobRecord) (r : JobRecord) → statesOf (rs ++ r ∷ []) ≡ max (statesOf rs) (statesIn r)
+unfolding statesOf
+states-behind [] r = omega arith
+states-behind (x ∷ rs) r = omega (arith, states-behind rs r)
 
 pub state-count : StateCount
 state-count rs = record { bounds = λ r q m n. named-below-all q m n; least = states-least rs }

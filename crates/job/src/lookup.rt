@@ -38,16 +38,17 @@ fn states_in(r: JobRecord) -> usize
     0
 }
 
-// The number of states: one more than the largest state in any T, I or F record, 0 where no record names a state.
+// The number of states, in one pass. The invariant, of `states`:
+// after the first k records it holds one more than the largest state in their T, I and F records, 0 if there is none
 pub fn state_count(job: &[u8]) -> usize
     ensures states { λ n. ⌜ n ≡ statesOf (recordsOf (now (job .entry))) ⌝ }
 {
     let count = job.len() / 4;
     let mut states = 0;
-    let mut i = 0;
-    while i < count {
-        states = larger(states, states_in(format::record_at(job, i)));
-        i += 1;
+    let mut k = 0;
+    while k < count {
+        states = larger(states, states_in(format::record_at(job, k)));
+        k += 1;
     }
     states
 }

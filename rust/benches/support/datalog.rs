@@ -1,21 +1,11 @@
 //! The same closure as Datalog, for tools that may be installed. Each returns the number of transitions it finds.
+use crate::states;
 use std::fmt::Write as _;
 use std::io::Write as _;
 use std::process::{Command, Stdio};
 
 fn installed(tool: &str) -> bool {
     Command::new(tool).arg("--version").stdout(Stdio::null()).stderr(Stdio::null()).status().is_ok_and(|s| s.success())
-}
-
-fn states(job: &[u8]) -> u8 {
-    job.chunks(4)
-        .map(|r| match r[0] {
-            b'T' => r[1].max(r[3]) + 1,
-            b'I' | b'F' => r[1] + 1,
-            _ => 0,
-        })
-        .max()
-        .unwrap_or(0)
 }
 
 fn output(tool: &str, words: &[&str], program: &str) -> Option<String> {
@@ -40,7 +30,7 @@ pub fn gringo(job: &[u8]) -> Option<u64> {
         let (a, b, c) = (r[1], r[2], r[3]);
         match r[0] {
             b'T' => writeln!(program, "t({a},{b},{c})."),
-            b'E' => writeln!(program, "t(Q,{a},Q) :- Q = 0..{}.", states(job) - 1),
+            b'E' => writeln!(program, "t(Q,{a},Q) :- Q = 0..{}.", states::count(job) - 1),
             b'U' => writeln!(program, "t(Q,{a},R) :- t(Q,{b},R)."),
             b'P' => writeln!(program, "t(Q,{a},R) :- t(Q,{b},M), t(M,{c},R)."),
             _ => Ok(()),
@@ -65,7 +55,7 @@ pub fn swipl(job: &[u8]) -> Option<u64> {
                 given = true;
                 writeln!(facts, "g({a},{b},{c}).")
             }
-            b'E' => writeln!(program, "t(Q,{a},Q) :- between(0,{},Q).", states(job) - 1),
+            b'E' => writeln!(program, "t(Q,{a},Q) :- between(0,{},Q).", states::count(job) - 1),
             b'U' => writeln!(program, "t(Q,{a},R) :- t(Q,{b},R)."),
             b'P' => writeln!(program, "t(Q,{a},R) :- t(Q,{b},M), t(M,{c},R)."),
             _ => Ok(()),

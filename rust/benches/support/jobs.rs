@@ -78,7 +78,7 @@ fn pairs() -> Vec<u8> {
 }
 
 /// As many records as a job may have.
-fn records() -> Vec<u8> {
+pub fn records() -> Vec<u8> {
     let mut job = frame(32);
     'fill: for x in 32..64 {
         for q in 0..32 {
