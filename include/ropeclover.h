@@ -191,8 +191,8 @@ void ropeclover_explain(const uint8_t *job, size_t job_len, uint8_t *table, size
                         const uint8_t *form, size_t form_len, uint8_t *listing, size_t listing_len, uint64_t answer[4]);
 
 /* Writes a code for each of the 64 symbols. The table is scratch: its first ROPECLOVER_TABLE_BYTES bytes are 0 afterwards. No I record is needed.
- * answer[2]: whether the language is empty, so that the start symbol derives no string of terminals; answer[3]: whether it grows, so that some
- * useful symbol X derives a string with X and more in it, by rules whose symbols are all useful. */
+ * answer[2]: whether the language is empty, so that the start symbol derives no string of terminals; answer[3]: whether it grows, so that it
+ * has infinitely many strings: some useful symbol derives itself between strings of terminals of which at least one is not empty. */
 void ropeclover_verdicts(const uint8_t *job, size_t job_len, uint8_t *table, size_t table_len, uint8_t *codes, size_t codes_len,
                          uint64_t answer[4]);
 

@@ -30,6 +30,16 @@ fn the_report_of_the_specification() {
         .prints("{\"empty\":false,\"examined\":11,\"growing\":true,\"joins\":8,\"start\":true,\"states\":3}\n");
 }
 
+/// S → S S with S → ε says the empty string alone; with S → a besides, one string of each length.
+#[test]
+fn what_vanishes_does_not_grow() {
+    let text = "name 0 S\nname 32 \"a\"\nS S\nE S\nP S S S\nI 0\nF 0\n";
+    for (more, growing) in [("", "no"), ("U S \"a\"\n", "yes")] {
+        let told = format!("states 1\nexamined 1\njoins 1\nstart yes\nempty no\ngrowing {growing}\n");
+        run(&["report"], format!("{text}{more}").as_bytes()).prints(&told);
+    }
+}
+
 /// S → A B with a rule for A alone: S and B derive no string, A and a are never reached; and C → c is beside it all.
 const KINDS: &str = "name 0 S\nname 1 A\nname 2 B\nname 32 \"a\"\nS S\nP S A B\nU A \"a\"\nU 3 33\nU 4 33\nP 4 4 4\n";
 

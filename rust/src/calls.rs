@@ -46,7 +46,7 @@ pub struct Explained {
 pub struct Verdicts {
     /// Whether the start symbol derives no terminal string.
     pub empty: bool,
-    /// Whether some useful symbol derives itself with more around it.
+    /// Whether it derives infinitely many: so if, and only if, some useful symbol derives itself between terminal strings, not both empty.
     pub growing: bool,
 }
 

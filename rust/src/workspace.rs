@@ -40,7 +40,7 @@ pub struct Report {
     pub start: bool,
     /// Whether the language is empty.
     pub empty: bool,
-    /// Whether it grows.
+    /// Whether it is infinite.
     pub growing: bool,
 }
 

@@ -56,7 +56,7 @@ fn verdicts_of_the_filed_grammars() {
 #[test]
 fn the_empty_string() {
     assert_eq!(report("S 0\nE 0\nI 0\nF 0\n"), (1, 1, 0, true, false, false));
-    assert_eq!(report("S 0\nE 0\nP 0 0 0\nI 0\nF 0\n"), (1, 1, 1, true, false, true));
+    assert_eq!(report("S 0\nE 0\nP 0 0 0\nI 0\nF 0\n"), (1, 1, 1, true, false, false));
     for rules in ["S 0\nE 0\n", "S 0\nE 0\nP 0 0 0\n"] {
         for (records, accepted) in [("I 0\nF 0\n", true), ("I 0\n", false)] {
             let job = assemble(&format!("{rules}{records}")).unwrap();

@@ -31,16 +31,6 @@ fn zero_fields_name_nothing() {
     assert_eq!((codes[0], codes[1], codes[2], codes[33]), (0, 1, 3, 3));
 }
 
-/// A cycle of unit rules alone does not grow; one with a pair rule on it does; and so does S -> SS with S -> ε by today's rule.
-#[test]
-fn growing_needs_a_pair_rule_on_the_cycle() {
-    assert!(!judge("S 0\nU 0 1\nU 1 0\nU 1 32\n").1);
-    assert!(judge("S 0\nU 0 1\nP 1 0 2\nU 1 32\nU 2 33\n").1);
-    assert!(judge("S 0\nP 0 0 0\nE 0\n").1);
-    // The pair rule's cycle is useless: 2 derives nothing.
-    assert!(!judge("S 0\nU 0 32\nP 0 0 2\n").1);
-}
-
 #[test]
 fn a_grammar_of_256_rules() {
     let mut text = String::from("S 0\nU 31 32\n");

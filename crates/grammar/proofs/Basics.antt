@@ -49,6 +49,10 @@ same-test true c f g = sym (f refl)
 same-test false true f g = g refl
 same-test false false f g = refl
 
+-- whatever passes one test passes another
+abbrev pub Subset : (ℕ → Bool) → (ℕ → Bool) → Type 0
+Subset s t = (X : ℕ) → s X ≡ true → t X ≡ true
+
 pub and-left : (a b : Bool) → (a && b) ≡ true → a ≡ true
 and-left true b e = refl
 and-left false b e = e
@@ -79,6 +83,11 @@ or-left false b p = absurd (false≢true p)
 pub or-right : (a b : Bool) → b ≡ true → (a || b) ≡ true
 or-right true b p = refl
 or-right false b p = p
+
+-- where the first fails, the second decides
+pub or-second : (a b : Bool) → a ≡ false → (a || b) ≡ b
+or-second true b p = absurd (true≢false p)
+or-second false b p = refl
 
 pub or-exact : (a b : Bool) → ((a || b) ≡ true) ↔ ((a ≡ true) ⊎ (b ≡ true))
 or-exact a b = (or-split a b, ⊎-elim (or-left a b) (or-right a b))

@@ -1,7 +1,8 @@
 -- Certificates of the generating symbols: a list in which each symbol comes in by a rule and those before it, and to
 -- which no rule adds. Sound by induction on the list, complete by induction on the derivation. Assumes nothing.
 use Rattle.grammar.proofs.Basics.{_≡_, refl, ⊎-elim, _↔_, inl, true, Bool, _&&_, _||_, List, [], List·Memᴰ, ℕ}
-use Rattle.grammar.proofs.Basics.{eqb, ltb, leb, and-split, or-exact, decided}
+use Rattle.grammar.proofs.Basics.{eqb, and-split, or-exact, decided}
+use Rattle.grammar.specs.Symbol.{isTerminal}
 use Rattle.grammar.specs.Rule.{Rule, Among, head, body}
 use Rattle.grammar.specs.Theorems.Inductive.{Generating}
 use Rattle.grammar.proofs.Productive.{generating-rule}
@@ -12,7 +13,7 @@ use Rattle.grammar.proofs.CertificateTests.{grounded-sound}
 -- a terminal, or a symbol of the list
 unfoldable pub generates : List ℕ → ℕ → Bool
 unfolding hasSymbol
-generates l X = let listed : Bool = hasSymbol l X in leb 32 X && ltb X 64 || listed
+generates l X = let listed : Bool = hasSymbol l X in isTerminal X || listed
 
 -- the rule has the head A and a body of symbols that generate
 abbrev pub makes : List ℕ → ℕ → Rule → Bool

@@ -9,7 +9,7 @@ use Rattle.grammar.specs.Growing.{Growing}
 use Rattle.grammar.proofs.Productive.{productive-is-generating}
 use Rattle.grammar.proofs.InContext.{in-context-is-reached}
 use Rattle.grammar.proofs.UsefulIsBoth.{useful-is-both}
-use Rattle.grammar.proofs.Growth.{growing-is-pair-cycle}
+use Rattle.grammar.proofs.Growth.{cycle-grows, growing-is-cycle}
 use Rattle.grammar.proofs.CertificateTests.{hasSymbol}
 use Rattle.grammar.proofs.CertificateSymbols.{generates}
 use Rattle.grammar.proofs.CertificateCycle.{certifiedRank, certified-no-cycle, certifiedCycle, certified-cycle}
@@ -34,13 +34,14 @@ module _ (rs : List Rule) (S : ℕ) (gen reach : List ℕ) (h : symbolsCertified
       Iff·trans (and-split (generates gen X) (hasSymbol reach X))
       (Iff·trans (Iff·and (productive-exact X) (in-context-exact X)) (Iff·symm (useful-is-both (Among rs) S X)))
 
-  -- by a useful pair rule from A to X, and over the symbols of the list back to A
-  pub growing : (A X : ℕ) (zs : List ℕ) → certifiedCycle (useful gen reach) rs A X zs ≡ true → Growing (Among rs) S
-  growing A X zs e =
-      growing-is-pair-cycle (Among rs) S .1 (certified-cycle (useful gen reach) rs S (λ X. useful-exact X .0) A X zs e)
+  -- by a useful pair rule of A with X and Y, a list of symbols from X back to A, and one from Y to a terminal
+  pub growing : (A X : ℕ) (zs : List ℕ) (Y : ℕ) (ys : List ℕ) →
+      certifiedCycle (useful gen reach) rs A X zs Y ys ≡ true → Growing (Among rs) S
+  growing A X zs Y ys e =
+      cycle-grows (Among rs) S (certified-cycle (useful gen reach) rs S (λ X. useful-exact X .0) A X zs Y ys e)
 
-  -- by a rank that no useful rule raises and each useful pair rule lowers
-  pub not-growing : (rank : ℕ → ℕ) → certifiedRank (useful gen reach) rs rank ≡ true → Growing (Among rs) S → ⊥
-  not-growing rank e g =
-      certified-no-cycle (useful gen reach) rs S (λ X. useful-exact X .1) rank e
-      (growing-is-pair-cycle (Among rs) S .0 g)
+  -- by a rank that no useful rule raises and that a useful pair rule lowers beside a symbol that leads to a terminal
+  pub not-growing : (full : List ℕ) (rank : ℕ → ℕ) → certifiedRank (useful gen reach) rs full rank ≡ true →
+      Growing (Among rs) S → ⊥
+  not-growing full rank e g =
+      certified-no-cycle (useful gen reach) rs S (λ X. useful-exact X .1) full rank e (growing-is-cycle rs S .0 g)

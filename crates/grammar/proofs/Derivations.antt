@@ -1,6 +1,6 @@
 -- Laws of derivation: it is transitive, and goes on inside any context. Assumes nothing.
 use Rattle.grammar.proofs.Basics.{List, _∷_, [], _++_, append-nil, append-assoc, ℕ}
-use Rattle.grammar.specs.Rule.{Rule, Rules, head, body, Productions, ProductionsOf, of-rule}
+use Rattle.grammar.specs.Rule.{Rule, Rules, head, body, pair, Productions, ProductionsOf, of-rule}
 use Rattle.grammar.specs.Derivation.{Step, by-production, Derives, none, more}
 
 module _ {P : Productions} where
@@ -39,3 +39,12 @@ module _ {P : Productions} where
 pub derives-rule : {R : Rules} (ρ : Rule) {β : List ℕ} → R ρ →
     Derives (ProductionsOf R) (body ρ) β → Derives (ProductionsOf R) (head ρ ∷ []) β
 derives-rule ρ r d = derives-production (of-rule ρ r) d
+
+-- a pair rule puts a symbol of its body beside what the other one derives
+module _ {R : Rules} (A X Y : ℕ) (r : R (pair A X Y)) where
+  pub derives-left : {w : List ℕ} → Derives (ProductionsOf R) (Y ∷ []) w → Derives (ProductionsOf R) (A ∷ []) (X ∷ w)
+  derives-left d = derives-rule (pair A X Y) r (derives-append {α = X ∷ []} {β = X ∷ []} none d)
+
+  pub derives-right :
+      {w : List ℕ} → Derives (ProductionsOf R) (X ∷ []) w → Derives (ProductionsOf R) (A ∷ []) (w ++ (Y ∷ []))
+  derives-right d = derives-rule (pair A X Y) r (derives-append {α = X ∷ []} {γ = Y ∷ []} d none)

@@ -1,107 +1,151 @@
--- A grammar grows if and only if a pair rule stands on a cycle. A derivation carries backwards 'a symbol leads to X
--- through a pair rule, or a symbol leads to X and does not stand alone'; of X alone only the first can hold.
--- Assumes nothing.
-use Rattle.grammar.proofs.Basics.{⊎-elim, _↔_, inl, inr, _⊎_, List, _∷_, [], _++_, ℕ, _<_, _≤_, arith, length}
-use Rattle.grammar.proofs.Basics.{length-append}
-use Rattle.grammar.specs.Rule.{Rule, Rules, ProductionsOf, of-rule, unit, pair}
+-- A grammar grows if and only if its language is infinite, and if and only if its useful rules have a cycle that
+-- grows. Three steps in a ring: what stands around a symbol can be repeated; a string that is long enough has a tree
+-- with such a cycle; and the cycle puts terminals beside a symbol. Assumes nothing.
+use Rattle.grammar.proofs.Basics.{⊎-elim, _↔_, inl, inr, _⊎_, List, _∷_, [], List·Memᴰ, _++_}
+use Rattle.grammar.proofs.Basics.{List·Memᴰ·head, List·Memᴰ·tail, append-nil, ℕ, _<_, _≤_, _+_, suc, zero}
+use Rattle.grammar.proofs.Basics.{add-one, arith, length, length-append}
+use Rattle.grammar.specs.Symbol.{Terminals}
+use Rattle.grammar.specs.Rule.{Rule, Rules, Among, ProductionsOf, head, pair}
 use Rattle.grammar.specs.Derivation.{Derives, none}
-use Rattle.grammar.specs.Growing.{AllUseful, UsefulRules, Growing}
-use Rattle.grammar.specs.Theorems.Inductive.{Leads, PairCycle}
-use Rattle.grammar.proofs.Strings.{Any, here, there, any-right}
-use Rattle.grammar.proofs.Derivations.{derives-rule, derives-inside}
-use Rattle.grammar.proofs.Backwards.{Up, Carried, before-derivation, any-before}
+use Rattle.grammar.specs.Useful.{Productive, InContext, Useful, AllUseful, UsefulRules}
+use Rattle.grammar.specs.Growing.{Growing}
+use Rattle.grammar.specs.Language.{Language, Infinite, Finite}
+use Rattle.grammar.specs.Theorems.Inductive.{Reached, Leads, LeadsToTerminal, GrowingCycle}
+use Rattle.grammar.proofs.Derivations.{derives-trans, derives-context, derives-inside, derives-left}
+use Rattle.grammar.proofs.Derivations.{derives-right}
+use Rattle.grammar.proofs.Productive.{terminals-append}
+use Rattle.grammar.proofs.UsefulIsBoth.{useful-both}
+use Rattle.grammar.proofs.Graph.{leads-in-context}
+use Rattle.grammar.proofs.Trees.{derives-tree, useful-tree}
+use Rattle.grammar.proofs.Slim.{bound, tree-short}
+use Rattle.grammar.proofs.Words.{strings, strings-has, lengths, lengths-bound}
 
-pub leads-trans : {R : Rules} {A B C : ℕ} → Leads R A B → Leads R B C → Leads R A C
-leads-trans Leads.here m = m
-leads-trans (Leads.by-unit r l) m = Leads.by-unit r (leads-trans l m)
-leads-trans (Leads.by-left r l) m = Leads.by-left r (leads-trans l m)
-leads-trans (Leads.by-right r l) m = Leads.by-right r (leads-trans l m)
+-- A derives a terminal string of at least n symbols
+abbrev Derived : Rules → (A n : ℕ) → Type 0
+Derived R A n = (w : List ℕ) × Terminals w × Derives (ProductionsOf R) (A ∷ []) w × (n ≤ length w)
 
-pub leads-grows : {R R′ : Rules} {A B : ℕ} → ((ρ : Rule) → R ρ → R′ ρ) → Leads R A B → Leads R′ A B
-leads-grows rules Leads.here = Leads.here
-leads-grows rules (Leads.by-unit {A = A} {X = X} r l) = Leads.by-unit (rules (unit A X) r) (leads-grows rules l)
-leads-grows rules (Leads.by-left {A = A} {X = X} {Y = Y} r l) =
-    Leads.by-left (rules (pair A X Y) r) (leads-grows rules l)
-leads-grows rules (Leads.by-right {A = A} {X = X} {Y = Y} r l) =
-    Leads.by-right (rules (pair A X Y) r) (leads-grows rules l)
-
--- A leads to X through a pair rule
-abbrev PairLeads : Rules → ℕ → ℕ → Type 0
-PairLeads R X A = (B : ℕ) × (Y : ℕ) × (Z : ℕ) × Leads R A B × R (pair B Y Z) × (Leads R Y X ⊎ Leads R Z X)
-
--- some symbol of the string leads to X through a pair rule, or some symbol leads to X and the string has others
--- besides
-abbrev Grown : Rules → ℕ → List ℕ → Type 0
-Grown R X α = Any (PairLeads R X) α ⊎ (Any (λ A. Leads R A X) α × (2 ≤ length α))
-
--- A derives a form in which X stands
-abbrev Around : Rules → ℕ → ℕ → Type 0
-Around R A X = (α : List ℕ) × (β : List ℕ) × Derives (ProductionsOf R) (A ∷ []) (α ++ (X ∷ β))
+-- A derives X between terminal strings of at least n symbols together
+abbrev Around : Rules → (A X n : ℕ) → Type 0
+Around R A X n =
+    (p : List ℕ) × (q : List ℕ) × Terminals p × Terminals q ×
+    Derives (ProductionsOf R) (A ∷ []) (p ++ (X ∷ q)) × (n ≤ length (p ++ q))
 
 module _ {R : Rules} where
-  -- what goes up from each symbol to those that lead to it goes up from a body to its head
-  leads-up : {P : ℕ → Type 0} → ((A Z : ℕ) → Leads R A Z → P Z → P A) → Up (ProductionsOf R) (Any P) P
-  leads-up up _ _ (of-rule (unit A X) r) (here p) = up A X (Leads.by-unit r Leads.here) p
-  leads-up up _ _ (of-rule (pair A X Y) r) (here p) = up A X (Leads.by-left r Leads.here) p
-  leads-up up _ _ (of-rule (pair A X Y) r) (there (here p)) = up A Y (Leads.by-right r Leads.here) p
+  in-context-around : {A X : ℕ} → InContext R A X → Around R A X 0
+  unfolding InContext
+  in-context-around c = (c .0, c .1, c .2, c .3, c .4, omega arith)
 
-  -- a pair rule comes in where its body alone is the string
-  grown-leads :
-      (X : ℕ) (α : List ℕ) (A : ℕ) (β γ : List ℕ) → ProductionsOf R A β → Any (λ B. Leads R B X) (α ++ (β ++ γ)) →
-      2 ≤ length (α ++ (β ++ γ)) → Grown R X (α ++ (A ∷ γ))
-  grown-leads X (Y ∷ α) A β γ p a l =
-      inr (any-before (leads-up (λ A Z. leads-trans)) (Y ∷ α) A β γ p a, simp length-append (omega arith))
-  grown-leads X [] A β (Y ∷ γ) p a l = inr (any-before (leads-up (λ A Z. leads-trans)) [] A β (Y ∷ γ) p a, omega arith)
-  grown-leads X [] _ _ [] (of-rule (unit A Y) r) a l = absurd (omega arith)
-  grown-leads X [] _ _ [] (of-rule (pair A Y Z) r) (here p) l = inl (here (A, Y, Z, Leads.here, r, inl p))
-  grown-leads X [] _ _ [] (of-rule (pair A Y Z) r) (there (here p)) l = inl (here (A, Y, Z, Leads.here, r, inr p))
+  around-trans : {A B X m n : ℕ} → Around R A B m → Around R B X n → Around R A X (m + n)
+  around-trans {X = X} (p, q, tp, tq, d, l) (u, v, tu, tv, e, k) = (
+    p ++ u,
+    v ++ q,
+    terminals-append p u tp tu,
+    terminals-append v q tv tq,
+    derives-inside X p q u v d e,
+    simp length-append (omega (arith, simp length-append at l, simp length-append at k)),
+  )
 
-  grown-before : (X : ℕ) → Carried (ProductionsOf R) (Grown R X)
-  grown-before X α A β γ r =
-      ⊎-elim
-      (λ a. inl (any-before (leads-up (λ A Z l p. (p .0, p .1, p .2, leads-trans l (p .3), p .4, p .5))) α A β γ r a))
-      (λ e. grown-leads X α A β γ r (e .0) (e .1))
+  -- a string in the place of the symbol
+  around-derived : {A X m n : ℕ} → Around R A X m → Derived R X n → Derived R A (m + n)
+  around-derived (p, q, tp, tq, d, l) (w, tw, e, k) = (
+    p ++ (w ++ q),
+    terminals-append p (w ++ q) tp (terminals-append w q tw tq),
+    derives-trans d (derives-context p q e),
+    simp length-append (omega (arith, simp length-append at l, k)),
+  )
 
-  derives-pair-leads :
-      (X : ℕ) (α β : List ℕ) → Derives (ProductionsOf R) (X ∷ []) (α ++ (X ∷ β)) → 0 < length (α ++ β) →
-      PairLeads R X X
-  derives-pair-leads X α β d l =
-      alone
-      (before-derivation (Grown R X) (grown-before X) d
-      (inr (any-right α (here Leads.here), simp length-append (omega (arith, simp length-append at l)))))
-    where
-      alone : Grown R X (X ∷ []) → PairLeads R X X
-      alone (inl (here p)) = p
-      alone (inr e) = absurd (omega arith)
+  -- a string beside the symbol, by a pair rule
+  around-left : (A X Y : ℕ) {n : ℕ} → R (pair A X Y) → Derived R Y n → Around R A X n
+  unfolding Terminals
+  around-left A X Y r (w, t, d, l) = ([], w, tt, t, derives-left A X Y r d, l)
 
-  leads-derives : {A X : ℕ} → Leads R A X → Around R A X
-  leads-derives Leads.here = ([], [], none)
-  leads-derives (Leads.by-unit {A = A} {X = Y} r l) =
-      let (α, β, d) = leads-derives l in
-      (α, β, derives-rule (unit A Y) r d)
-  leads-derives (Leads.by-left {A = A} {X = Y} {Y = Z} {Z = X} r l) =
-      let (α, β, d) = leads-derives l in
-      (α, β ++ (Z ∷ []), derives-inside X [] (Z ∷ []) α β (derives-rule (pair A Y Z) r none) d)
-  leads-derives (Leads.by-right {A = A} {X = Y} {Y = Z} {Z = X} r l) =
-      let (α, β, d) = leads-derives l in
-      (Y ∷ α, β ++ [], derives-inside X (Y ∷ []) [] α β (derives-rule (pair A Y Z) r none) d)
+  around-right : (A X Y : ℕ) {n : ℕ} → R (pair A X Y) → Derived R X n → Around R A Y n
+  unfolding Terminals
+  around-right A X Y r (w, t, d, l) = (w, [], t, tt, derives-right A X Y r d, rw append-nil l)
 
-pub growing-cycles : (R : Rules) (S : ℕ) → Growing R S → PairCycle R S
-unfolding Growing
-growing-cycles R S g =
-    let p = derives-pair-leads (g .0) (g .1) (g .2) (g .4) (g .5) in
-    (p .0, p .1, p .2, p .4, ⊎-elim (λ l. inl (leads-trans l (p .3))) (λ l. inr (leads-trans l (p .3))) (p .5))
+  -- n times around
+  around-times : {X : ℕ} → Around R X X 1 → (n : ℕ) → Around R X X n
+  unfolding Terminals
+  around-times c zero = ([], [], tt, tt, none, omega arith)
+  around-times {X} c (suc n) =
+      let next : Around R X X (n + 1) = around-trans (around-times c n) c in
+      rw add-one at next
 
--- the pair rule puts its other symbol beside
-pub cycle-grows : (R : Rules) (S : ℕ) → PairCycle R S → Growing R S
-unfolding Growing AllUseful leads-derives
-cycle-grows R S c =
-    ⊎-elim
-    (λ l. around (leads-derives (Leads.by-left (c .3) l)) (simp length-append (omega arith)))
-    (λ l. around (leads-derives (Leads.by-right (c .3) l)) (omega arith)) (c .4)
-  where
-    around : (e : Around (UsefulRules R S) (c .0) (c .0)) → 0 < length (e .0 ++ e .1) → Growing R S
-    around e l = (c .0, e .0, e .1, c .3 .1 .0, e .2, l)
+module _ (R : Rules) (S : ℕ) where
+  -- what stands around the symbol, as often as it takes to pass all strings of a list
+  pub growing-infinite : Growing R S → Infinite R S
+  unfolding Growing Infinite Productive
+  growing-infinite (X, u, v, useful, tu, tv, d, l) ws =
+      let (p, c) = useful-both R S X useful in
+      let n = suc (lengths ws) in
+      let (w, t, e, k) =
+      around-derived {n = 0} (around-trans (in-context-around c) (around-times (u, v, tu, tv, d, l) n))
+      (p .0, p .1, p .2, omega arith) in
+      (w, (t, e), λ m. omega (arith, lengths-bound m, k))
 
-pub growing-is-pair-cycle : (R : Rules) (S : ℕ) → Growing R S ↔ PairCycle R S
-growing-is-pair-cycle R S = (growing-cycles R S, cycle-grows R S)
+  leads-around : {A X : ℕ} → Leads (UsefulRules R S) A X → Around R A X 0
+  leads-around l = in-context-around (leads-in-context R S l)
+
+  leads-derived : {X : ℕ} → LeadsToTerminal (UsefulRules R S) X → Derived R X 1
+  unfolding Terminals
+  leads-derived (a, t, l) = around-derived {n = 1} (leads-around l) (a ∷ [], (t, tt), none, omega arith)
+
+  around-grows : {A : ℕ} → Useful R S A → Around R A A 1 → Growing R S
+  unfolding Growing
+  around-grows {A} u (p, q, tp, tq, d, l) = (A, p, q, u, tp, tq, d, l)
+
+  pub cycle-grows : GrowingCycle (UsefulRules R S) → Growing R S
+  unfolding AllUseful
+  cycle-grows (A, X, Y, r, inl (l, t)) =
+      around-grows (r .1 .0) (around-trans (around-left A X Y (r .0) (leads-derived t)) (leads-around l))
+  cycle-grows (A, X, Y, r, inr (l, t)) =
+      around-grows (r .1 .0) (around-trans (around-right A X Y (r .0) (leads-derived t)) (leads-around l))
+
+  -- a string of the language is short, or shows a cycle
+  module _ (n : ℕ) (heads : (ρ : Rule) → R ρ → head ρ < n) where
+    language-short : {w : List ℕ} → Language R S w → GrowingCycle (UsefulRules R S) ⊎ List·Memᴰ w (strings (bound n))
+    language-short {w} (t, d) =
+        ⊎-elim inl
+        (λ l. inr (strings-has (bound n) w t l))
+        (tree-short n (λ ρ r. heads ρ (r .0)) (useful-tree Reached.start (derives-tree w t d)))
+
+    infinite-cycle : Infinite R S → GrowingCycle (UsefulRules R S)
+    unfolding Infinite
+    infinite-cycle i =
+        let (w, language, out) = i (strings (bound n)) in
+        ⊎-elim (λ c. c) (λ m. absurd (out m)) (language-short language)
+
+    not-growing-finite : (Growing R S → ⊥) → Finite R S
+    unfolding Finite
+    not-growing-finite not =
+        (strings (bound n), λ w l. ⊎-elim (λ c. absurd (not (cycle-grows c))) (λ m. m) (language-short l))
+
+-- a number above the heads of all rules of a list
+unfoldable above : List Rule → ℕ
+above [] = 0
+above (ρ ∷ ρs) = suc (head ρ + above ρs)
+
+above-heads : (rs : List Rule) (ρ : Rule) → Among rs ρ → head ρ < above rs
+unfolding above
+above-heads (σ ∷ σs) ρ (List·Memᴰ·head e) = rw e (omega arith)
+above-heads (σ ∷ σs) ρ (List·Memᴰ·tail m) = omega (arith, above-heads σs ρ m)
+
+module _ (rs : List Rule) (S : ℕ) where
+  pub growing-is-cycle : Growing (Among rs) S ↔ GrowingCycle (UsefulRules (Among rs) S)
+  growing-is-cycle = (
+    λ g. infinite-cycle (Among rs) S (above rs) (above-heads rs) (growing-infinite (Among rs) S g),
+    cycle-grows (Among rs) S,
+  )
+
+  pub growing-is-infinite : Growing (Among rs) S ↔ Infinite (Among rs) S
+  growing-is-infinite = (
+    growing-infinite (Among rs) S,
+    λ i. cycle-grows (Among rs) S (infinite-cycle (Among rs) S (above rs) (above-heads rs) i),
+  )
+
+  pub not-growing-is-finite : (Growing (Among rs) S → ⊥) ↔ Finite (Among rs) S
+  unfolding Infinite Finite
+  not-growing-is-finite = (
+    not-growing-finite (Among rs) S (above rs) (above-heads rs),
+    λ f g. let (w, language, out) = growing-infinite (Among rs) S g (f .0) in out (f .1 w language),
+  )

@@ -7,12 +7,12 @@ use Rattle.grammar.specs.Derivation.{Derives, none}
 use Rattle.grammar.specs.Useful.{Productive, InContext}
 use Rattle.grammar.specs.Theorems.Inductive.{Generating, Reached}
 use Rattle.grammar.proofs.Strings.{All, nil, cons, Focus, on, past, focus-at}
-use Rattle.grammar.proofs.Derivations.{derives-append, derives-rule, derives-inside}
+use Rattle.grammar.proofs.Derivations.{derives-rule, derives-inside, derives-left, derives-right}
 use Rattle.grammar.proofs.Backwards.{Up, before-derivation, focus-before}
 use Rattle.grammar.proofs.Productive.{terminals-append, terminals-generate, generating-up, generating-derives}
 
 module _ {R : Rules} where
-  reached-trans : {S A X : ℕ} → Reached R S A → Reached R A X → Reached R S X
+  pub reached-trans : {S A X : ℕ} → Reached R S A → Reached R A X → Reached R S X
   reached-trans c Reached.start = c
   reached-trans c (Reached.by-unit r d) = Reached.by-unit r (reached-trans c d)
   reached-trans c (Reached.by-left r g d) = Reached.by-left r g (reached-trans c d)
@@ -59,12 +59,10 @@ reached-in-context {R} {S} (Reached.by-unit {A = A} {X = X} r c) =
     in-context-trans R S X A (reached-in-context c) ([], [], tt, tt, derives-rule (unit A X) r none)
 reached-in-context {R} {S} (Reached.by-left {A = A} {X = X} {Y = Y} r g c) =
     let p = generating-derives g in
-    in-context-trans R S X A (reached-in-context c)
-    ([], p .0, tt, p .1, derives-rule (pair A X Y) r (derives-append {α = X ∷ []} {β = X ∷ []} none (p .2)))
+    in-context-trans R S X A (reached-in-context c) ([], p .0, tt, p .1, derives-left A X Y r (p .2))
 reached-in-context {R} {S} (Reached.by-right {A = A} {X = X} {Y = Y} r g c) =
     let p = generating-derives g in
-    in-context-trans R S Y A (reached-in-context c)
-    (p .0, [], p .1, tt, derives-rule (pair A X Y) r (derives-append {α = X ∷ []} {γ = Y ∷ []} (p .2) none))
+    in-context-trans R S Y A (reached-in-context c) (p .0, [], p .1, tt, derives-right A X Y r (p .2))
 
 pub in-context-is-reached : (R : Rules) (S X : ℕ) → InContext R S X ↔ Reached R S X
 in-context-is-reached R S X = (in-context-reached R S X, reached-in-context)

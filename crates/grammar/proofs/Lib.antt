@@ -24,4 +24,8 @@ pub mod PreStar
 pub mod Productive
 pub mod InContext
 pub mod UsefulIsBoth
+pub mod Graph
+pub mod Trees
+pub mod Slim
+pub mod Words
 pub mod Growth

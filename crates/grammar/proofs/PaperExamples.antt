@@ -39,7 +39,7 @@ figure1 =
           (λ q X r ql w rl. decides q X r ql rl);
     }
 
--- 25.5: all symbols are useful, and S, A are above the others
+-- 25.5: all symbols are useful and lead to a terminal, and S, A are above the others
 abbrev pub finiteVariables : List ℕ
 finiteVariables = 3 ∷ 2 ∷ 1 ∷ 0 ∷ []
 
@@ -52,9 +52,11 @@ finite-certified = refl
 
 pub finite : Growing (Among finiteRules) 0 → ⊥
 unfolding certifiedRank useful
-finite = not-growing finiteRules 0 finiteVariables finiteReached finite-certified (λ X. getD (2 ∷ 1 ∷ []) X 0) refl
+finite =
+    not-growing finiteRules 0 finiteVariables finiteReached finite-certified finiteVariables
+    (λ X. getD (2 ∷ 1 ∷ []) X 0) refl
 
--- 25.6: C and c are not reached, and S → AB, A → BS is a cycle
+-- 25.6: C and c are not reached, and S → AB, A → BS is a cycle with B, which leads to b, beside it
 abbrev pub infiniteVariables : List ℕ
 infiniteVariables = 1 ∷ 2 ∷ 3 ∷ 0 ∷ []
 
@@ -67,7 +69,8 @@ infinite-certified = refl
 
 pub infinite : Growing (Among infiniteRules) 0
 unfolding certifiedCycle useful
-infinite = growing infiniteRules 0 infiniteVariables infiniteReached infinite-certified 0 1 (0 ∷ []) refl
+infinite =
+    growing infiniteRules 0 infiniteVariables infiniteReached infinite-certified 0 1 (0 ∷ []) 2 (33 ∷ []) refl
 
 -- a symbol that the lists have as productive and not reached
 pub pruned : (X : ℕ) → generates infiniteVariables X ≡ true → hasSymbol infiniteReached X ≡ false → Pruned X

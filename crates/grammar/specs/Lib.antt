@@ -5,5 +5,6 @@ pub mod Automaton
 pub mod Closure
 pub mod Useful
 pub mod Growing
+pub mod Language
 pub mod Counting
 pub mod Theorems

@@ -1,8 +1,8 @@
--- Productive symbols, symbols in a terminal context, and useful symbols. Assumes nothing.
+-- Productive symbols, symbols in a terminal context, useful symbols and useful rules. Assumes nothing.
 use Prim.Native.Nat.{ℕ}
 use mathlib.Core.List.{List, [], _∷_, _++_}
 use Rattle.grammar.specs.Symbol.{Terminals}
-use Rattle.grammar.specs.Rule.{Rules, ProductionsOf}
+use Rattle.grammar.specs.Rule.{Rules, ProductionsOf, head, body}
 use Rattle.grammar.specs.Derivation.{Derives}
 
 -- Verdicts: X derives a terminal string. [Esparza], section 5: productive.
@@ -20,3 +20,12 @@ unfoldable pub Useful : Rules → ℕ → ℕ → Type 0
 Useful R S X =
     (α : List ℕ) × (β : List ℕ) × (w : List ℕ) × Terminals w ×
     Derives (ProductionsOf R) (S ∷ []) (α ++ (X ∷ β)) × Derives (ProductionsOf R) (α ++ (X ∷ β)) w
+
+-- every symbol of the string is useful
+unfoldable pub AllUseful : Rules → ℕ → List ℕ → Type 0
+AllUseful R S [] = Unit {0}
+AllUseful R S (X ∷ α) = Useful R S X × AllUseful R S α
+
+-- Verdicts: the rules whose symbols are all useful
+abbrev pub UsefulRules : Rules → ℕ → Rules
+UsefulRules R S ρ = R ρ × AllUseful R S (head ρ ∷ body ρ)

@@ -1,8 +1,7 @@
 // The symbols of a grammar. The papers' definitions stand in specs/, the theorems about them in proofs/.
 ghost use mathlib.Core.Path.{_≡_};
-ghost use mathlib.Core.Bool.{_&&_};
-ghost use lib.Dec.{leb, ltb};
-ghost use Rattle.grammar.specs.Symbol.{classOf};
+ghost use lib.Dec.{ltb};
+ghost use Rattle.grammar.specs.Symbol.{classOf, isTerminal};
 
 pub mod theorems;
 
@@ -38,7 +37,7 @@ pub fn is_variable(symbol: u8) -> bool
 
 // Whether a byte is a terminal.
 pub fn is_terminal(symbol: u8) -> bool
-    ensures terminal { λ r. ⌜ r ≡ (leb 32 symbol && ltb symbol 64) ⌝ }
+    ensures terminal { λ r. ⌜ r ≡ isTerminal symbol ⌝ }
 {
     let class = classify(symbol);
     match class {

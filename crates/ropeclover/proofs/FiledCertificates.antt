@@ -7,14 +7,14 @@ use Rattle.ropeclover.specs.Filed.{FiledGrammars}
 use Rattle.ropeclover.proofs.FiledTests.{Growth, cycle, ranks, unsaid, Certificate, certifies}
 use Rattle.ropeclover.proofs.FiledRight.{also, none}
 
--- A → BB leads from A to B, and B → AB back
+-- A → BB leads from A to B, and B → AB back; the other B leads to b
 abbrev report : Certificate
 report =
     record {
       transitions = figure1After;
       generating = 1 ∷ 0 ∷ [];
       reached = 0 ∷ 1 ∷ 32 ∷ 33 ∷ [];
-      growth = cycle 0 1 (0 ∷ []);
+      growth = cycle 0 1 (0 ∷ []) 1 (33 ∷ []);
     }
 
 -- the chain baabab
@@ -61,25 +61,25 @@ abbrev rulesAlone : (generating reached : List ℕ) → Growth → Certificate
 rulesAlone generating reached growth =
     record { transitions = []; generating = generating; reached = reached; growth = growth }
 
--- 25.5: S is above A, and A above B and C
+-- 25.5: all lead to a terminal, S is above A, and A above B and C
 abbrev finite : Certificate
-finite = rulesAlone finiteVariables finiteReached (ranks (2 ∷ 1 ∷ []))
+finite = rulesAlone finiteVariables finiteReached (ranks finiteVariables (2 ∷ 1 ∷ []))
 
--- 25.6: S → AB leads from S to A, and A → BS back
+-- 25.6: S → AB leads from S to A, and A → BS back; B, beside A, leads to b
 abbrev infinite : Certificate
-infinite = rulesAlone infiniteVariables infiniteReached (cycle 0 1 (0 ∷ []))
+infinite = rulesAlone infiniteVariables infiniteReached (cycle 0 1 (0 ∷ []) 2 (33 ∷ []))
 
--- the chain aab: S leads from 1 by ab, and so from 0 by aS; S → aS leads from S back to it
+-- the chain aab: S leads from 1 by ab, and so from 0 by aS; S → aS leads from S back to it, beside a
 abbrev terminals : Certificate
 terminals =
     record {
       transitions = (0, 32, 1) ∷ (1, 32, 2) ∷ (2, 33, 3) ∷ (1, 0, 3) ∷ (0, 0, 3) ∷ [];
       generating = 0 ∷ [];
       reached = 0 ∷ 1 ∷ 32 ∷ 33 ∷ [];
-      growth = cycle 0 0 [];
+      growth = cycle 0 0 [] 32 [];
     }
 
--- the jobs with S → ε, with S → SS and without, state 0 final or not
+-- the jobs with S → ε, with S → SS and without, state 0 final or not; nothing leads to a terminal
 abbrev epsilon : Growth → Certificate
 epsilon growth = record { transitions = (0, 0, 0) ∷ []; generating = 0 ∷ []; reached = 0 ∷ []; growth = growth }
 
@@ -95,4 +95,4 @@ filed-grammars =
     (also _ _ terminals refl
     (also _ _ (epsilon unsaid) refl
     (also _ _ (epsilon unsaid) refl
-    (also _ _ (epsilon (cycle 0 0 [])) refl (also _ _ (epsilon unsaid) refl none))))))))))
+    (also _ _ (epsilon (ranks [] [])) refl (also _ _ (epsilon unsaid) refl none))))))))))

@@ -102,12 +102,12 @@ module _
     growing-right : (growth : Growth) (answer : Bool) →
         shows (useful (c .generating) (c .reached)) (J .rules) growth answer ≡ true →
         Says answer (Growing (Among (J .rules)) (J .start))
-    growing-right (cycle A X back) true e =
-        growing (J .rules) (J .start) (c .generating) (c .reached) symbols A X back e
-    growing-right (cycle A X back) false e = absurd (false≢true e)
-    growing-right (ranks l) true e = absurd (false≢true e)
-    growing-right (ranks l) false e =
-        not-growing (J .rules) (J .start) (c .generating) (c .reached) symbols (λ X. getD l X 0) e
+    growing-right (cycle A X back Y down) true e =
+        growing (J .rules) (J .start) (c .generating) (c .reached) symbols A X back Y down e
+    growing-right (cycle A X back Y down) false e = absurd (false≢true e)
+    growing-right (ranks full l) true e = absurd (false≢true e)
+    growing-right (ranks full l) false e =
+        not-growing (J .rules) (J .start) (c .generating) (c .reached) symbols full (λ X. getD l X 0) e
     growing-right unsaid answer e = absurd (false≢true e)
 
     -- each fact that the certificate shows is right

@@ -19,11 +19,12 @@ use Rattle.ropeclover.specs.Filed.{Fact, Filed}
 use Rattle.job.proofs.GivenTriples.{givenTriples}
 use Rattle.job.specs.Format as format
 
--- what shows whether a grammar grows: a pair rule from A to X with the symbols of a way back to A; the ranks of the
--- symbols from 0 on, 0 for those past the list; nothing, where no fact asks for it
+-- what shows whether a grammar grows: a pair rule of A with X and Y, the symbols of a way from X back to A and those
+-- of one from Y to a terminal; or the variables that lead to a terminal, and the ranks of the symbols from 0 on, 0 for
+-- those past the list; or nothing, where no fact asks for it
 pub data Growth : Type 0 where
-  cycle : (A X : ℕ) (back : List ℕ) → Growth
-  ranks : List ℕ → Growth
+  cycle : (A X : ℕ) (back : List ℕ) (Y : ℕ) (down : List ℕ) → Growth
+  ranks : (full ranks : List ℕ) → Growth
   unsaid : Growth
 
 -- the transitions of the smallest set, the variables that generate and the symbols that are reached, each after those
@@ -36,10 +37,10 @@ pub record Certificate : Type 0 where
 
 -- the growth shows the answer
 abbrev pub shows : (ℕ → Bool) → List Rule → Growth → Bool → Bool
-shows u rs (cycle A X back) true = certifiedCycle u rs A X back
-shows u rs (cycle A X back) false = false
-shows u rs (ranks l) true = false
-shows u rs (ranks l) false = certifiedRank u rs (λ X. getD l X 0)
+shows u rs (cycle A X back Y down) true = certifiedCycle u rs A X back Y down
+shows u rs (cycle A X back Y down) false = false
+shows u rs (ranks full l) true = false
+shows u rs (ranks full l) false = certifiedRank u rs full (λ X. getD l X 0)
 shows u rs unsaid answer = false
 
 -- the code of a symbol, by whether it is named, generates and is reached

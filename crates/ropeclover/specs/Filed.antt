@@ -163,7 +163,7 @@ doublingJob =
     record {
       needed = true;
       job = epsilonRecords ++ finalZero ++ doubling;
-      facts = examined 1 ∷ joins 1 ∷ acceptsForm [] true ∷ isGrowing true ∷ [];
+      facts = examined 1 ∷ joins 1 ∷ acceptsForm [] true ∷ isGrowing false ∷ [];
     }
 
 abbrev pub doublingUnfinal : Filed

@@ -2,7 +2,7 @@
 -- Assumes nothing.
 use Rattle.grammar.proofs.Basics.{_≡_, refl, _∙_, ⊎-elim, true, Bool, List, _∷_, [], List·Memᴰ·head}
 use Rattle.grammar.proofs.Basics.{List·Memᴰ·eq-of-singleton, ℕ, _<_, _≤_, suc, zero, eq-or-lt-of-le, arith, length}
-use Rattle.grammar.proofs.Basics.{getD, same-test}
+use Rattle.grammar.proofs.Basics.{getD, same-test, Subset}
 use Rattle.grammar.specs.Counting.{count}
 use Rattle.grammar.specs.Rule.{Rule, Among}
 use Rattle.grammar.proofs.Counting.{count-equal}
@@ -11,7 +11,7 @@ use Rattle.verdicts.specs.declared.Direction.{Direction}
 use Rattle.verdicts.specs.Sets.{standsIn, ruleIn, within, ready, added, grown}
 use Rattle.verdicts.specs.Inside.Flags.{Flags, Raised, Keys, rulesOfKeys}
 use Rattle.verdicts.specs.Inside.Passes.{byKeys}
-use Rattle.verdicts.proofs.Tests.{Subset, ready-grows, added-has, within-among, among-within}
+use Rattle.verdicts.proofs.Tests.{ready-grows, added-has, within-among, among-within}
 use Rattle.verdicts.proofs.Rounds.{ClosedUnder, Below, round-keeps, round-adds, round-within, grown-keeps}
 use Rattle.verdicts.proofs.Rounds.{grown-within, grown-closed}
 use Rattle.verdicts.proofs.KeyRules.{among-key, of-each-key, keys-below}

@@ -12,6 +12,7 @@ use Rattle.job.proofs.NoRepeat.{member-at}
 use Rattle.job.proofs.KeyRules.{key-in-range}
 use Rattle.verdicts.specs.Sets.{allIn, anyIn}
 use Rattle.verdicts.specs.Theorems.Meant.{RulesInRange}
+use Rattle.verdicts.specs.Verdicts.{oneEach}
 use Rattle.verdicts.specs.Inside.Cycles.{pairTo}
 use Rattle.verdicts.specs.Inside.Flags.{ruleFrom, RuleFits, Keys, rulesOfKeys}
 use Rattle.verdicts.proofs.Rounds.{Below}
@@ -59,12 +60,12 @@ module _ (r : declared.Rule) where
       (λ k. cases (eqb (r .kind) byteU) (λ l. rw (k, l)) (λ l. simp (k, l, or-false)))
 
   -- and the test of a pair
-  pub pair-by-kind : (Z : ℕ) (set : ℕ → Bool) →
-      pairTo Z set (ruleFrom r)
+  pub pair-by-kind : (Z : ℕ) (set other : ℕ → Bool) →
+      pairTo Z set other (ruleFrom r)
       ≡ cond (eqb (r .kind) byteE) false
-      (cond (eqb (r .kind) byteU) false (eqb (r .head) Z && anyIn set (body (ruleFrom r))))
+      (cond (eqb (r .kind) byteU) false (eqb (r .head) Z && oneEach set other (r .second) (r .third)))
   unfolding ruleFrom
-  pair-by-kind Z set =
+  pair-by-kind Z set other =
       cases (eqb (r .kind) byteE) (λ k. rw k) (λ k. cases (eqb (r .kind) byteU) (λ l. rw (k, l)) (λ l. rw (k, l)))
 
   -- all its symbols are symbols

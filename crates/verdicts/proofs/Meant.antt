@@ -1,9 +1,12 @@
--- The computed verdicts mean what the papers say, of a grammar and of a call that is not refused. Assumes nothing.
-use Rattle.grammar.proofs.Basics.{_≡_, ap, subst, _↔_, true, false, not, List, ℕ, arith, not-true, not-false, cases}
-use Rattle.grammar.proofs.Basics.{refuted, not-true-false}
+-- The computed verdicts are what is meant, of a grammar and of a call that is not refused. Assumes nothing.
+use Rattle.grammar.proofs.Basics.{_≡_, ap, subst, _↔_, Iff·trans, true, false, not, List, ℕ, arith, not-true}
+use Rattle.grammar.proofs.Basics.{not-false, cases, refuted, not-true-false}
 use Rattle.grammar.specs.Rule.{Rule, Among, empty}
 use Rattle.grammar.specs.Useful.{Productive}
+use Rattle.grammar.specs.Growing.{Growing}
+use Rattle.grammar.specs.Language.{Infinite, Finite}
 use Rattle.grammar.proofs.UsefulIsBoth.{useful-both, both-useful}
+use Rattle.grammar.proofs.Growth.{growing-is-infinite, not-growing-is-finite}
 use Rattle.job.specs.Job.{jobOf}
 use Rattle.job.proofs.AcceptedFacts.{in-range}
 use Rattle.verdicts.specs.Verdicts.{productive, useful, growing, isEmpty, isNamed, codeOf}
@@ -62,6 +65,18 @@ module _ (rules : List Rule) (S : ℕ) (below : Below 64 rules) where
     λ p. ap not (productive-is rules below S .1 p),
   )
 
+  infinite-meant : (growing rules S ≡ true) ↔ Infinite (Among rules) S
+  infinite-meant = Iff·trans (growing-is rules S below) (growing-is-infinite rules S)
+
+  not-growing-meant : (growing rules S ≡ false) ↔ (Growing (Among rules) S → ⊥)
+  not-growing-meant = (
+    refuted (growing-is rules S below),
+    λ n. not-true-false (growing rules S) (λ e. n (growing-is rules S below .0 e)),
+  )
+
+  finite-meant : (growing rules S ≡ false) ↔ Finite (Among rules) S
+  finite-meant = Iff·trans not-growing-meant (not-growing-is-finite rules S)
+
 pub verdicts-meant : (job table codes : List ℕ) → verdictsCheck job table codes .number ≡ 0 → Meant job table codes
 unfolding verdictsOn
 verdicts-meant job table codes z =
@@ -76,4 +91,6 @@ verdicts-meant job table codes z =
       empty = rw given (empty-meant rules S below);
       notEmpty = rw given (not-empty-meant rules S below);
       growing = rw given (growing-is rules S below);
+      infinite = rw given (infinite-meant rules S below);
+      finite = rw given (finite-meant rules S below);
     }

@@ -1,19 +1,18 @@
 -- The computed sets are the papers' sets: each of their rounds is a way to generate, to reach or to lead, and what is
 -- closed under the rules contains all that generates, is reached or leads. Assumes nothing.
-use Rattle.grammar.proofs.Basics.{_≡_, refl, _↔_, true, List, _∷_, [], ℕ, eqb, eq-eqb, eqb-true, le-leb, lt-ltb}
+use Rattle.grammar.proofs.Basics.{_≡_, refl, _↔_, true, Bool, List, _∷_, [], ℕ, eqb, eq-eqb, eqb-true, le-leb, lt-ltb}
 use Rattle.grammar.proofs.Basics.{leb-true, and-left, and-right}
-use Rattle.grammar.specs.Symbol.{IsTerminal}
+use Rattle.grammar.specs.Symbol.{IsTerminal, isTerminal}
 use Rattle.grammar.specs.Rule.{Rule, Among, head, body, empty, unit, pair}
-use Rattle.grammar.specs.Useful.{Productive, Useful}
-use Rattle.grammar.specs.Growing.{AllUseful, UsefulRules}
-use Rattle.grammar.specs.Theorems.Inductive.{Generating, Reached, Leads}
+use Rattle.grammar.specs.Useful.{Productive, Useful, AllUseful, UsefulRules}
+use Rattle.grammar.specs.Theorems.Inductive.{Generating, Reached, Leads, LeadsToTerminal}
 use Rattle.grammar.proofs.Strings.{All, nil, cons, Any, here, there}
 use Rattle.grammar.proofs.Productive.{generating-rule, generating-derives, productive-generates}
 use Rattle.grammar.proofs.InContext.{reached-in-context, in-context-reached}
 use Rattle.grammar.proofs.UsefulIsBoth.{useful-both, both-useful}
 use Rattle.verdicts.specs.declared.Direction.the-variants.{Up, Down, Back}
 use Rattle.verdicts.specs.Sets.{allIn, standsIn, within}
-use Rattle.verdicts.specs.Verdicts.{isTerminal, productive, useful, usefulRules, leads}
+use Rattle.verdicts.specs.Verdicts.{productive, useful, usefulRules, leads, toTerminal}
 use Rattle.verdicts.proofs.Tests.{all-in, in-all, any-in, in-any, stands-has, stands-first, stands-second}
 use Rattle.verdicts.proofs.Tests.{within-among, among-within}
 use Rattle.verdicts.proofs.Rounds.{Below, grown-sound, grown-keeps, grown-closed}
@@ -128,31 +127,47 @@ module _ (rules : List Rule) (below : Below 64 rules) where
       λ u. among-within (useful rules S) rules ρ (u .0) (all-useful (head ρ ∷ body ρ) .1 (u .1)),
     )
 
-  leads-rule :
-      (Z : ℕ) (ρ : Rule) → Among rules ρ → Any (λ X. Leads (Among rules) X Z) (body ρ) → Leads (Among rules) (head ρ) Z
-  leads-rule Z (unit A X) m (here l) = Leads.by-unit m l
-  leads-rule Z (pair A X Y) m (here l) = Leads.by-left m l
-  leads-rule Z (pair A X Y) m (there (here l)) = Leads.by-right m l
+  -- the symbols that lead to one of a set
+  module _ (set : ℕ → Bool) where
+    abbrev LeadsTo : ℕ → Type 0
+    LeadsTo X = (Z : ℕ) × (set Z ≡ true) × Leads (Among rules) X Z
 
-  pub leads-sound : (Z X : ℕ) → leads rules Z X ≡ true → Leads (Among rules) X Z
-  unfolding leads
-  leads-sound Z =
-      grown-sound Back rules (λ X. Leads (Among rules) X Z)
-      (λ X e. rw (← eqb-true Z X e) Leads.here)
-      (λ t one ρ m X r e.
-      stands-has {P = λ X. Leads (Among rules) X Z} X (cons (leads-rule Z ρ m (any-in t (body ρ) one r)) nil) e)
+    leads-rule : (ρ : Rule) → Among rules ρ → Any LeadsTo (body ρ) → LeadsTo (head ρ)
+    leads-rule (unit A X) m (here (Z, e, l)) = (Z, e, Leads.by-unit m l)
+    leads-rule (pair A X Y) m (here (Z, e, l)) = (Z, e, Leads.by-left m l)
+    leads-rule (pair A X Y) m (there (here (Z, e, l))) = (Z, e, Leads.by-right m l)
 
-  leads-back :
-      (Z : ℕ) (ρ : Rule) → Among rules ρ → Any (λ X. leads rules Z X ≡ true) (body ρ) → leads rules Z (head ρ) ≡ true
-  unfolding leads
-  leads-back Z ρ m a =
-      grown-closed Back rules _ below ρ m (head ρ) (in-any (leads rules Z) (λ X p. p) a) (stands-first (head ρ) [])
+    pub leads-sound : (X : ℕ) → leads rules set X ≡ true → LeadsTo X
+    unfolding leads
+    leads-sound =
+        grown-sound Back rules LeadsTo
+        (λ X e. (X, e, Leads.here))
+        (λ t one ρ m X r e.
+        stands-has {P = LeadsTo} X (cons (leads-rule ρ m (any-in t (body ρ) one r)) nil) e)
 
-  pub leads-complete : {Z X : ℕ} → Leads (Among rules) X Z → leads rules Z X ≡ true
-  unfolding leads
-  leads-complete {Z} Leads.here = grown-keeps Back rules _ Z (eq-eqb Z Z refl)
-  leads-complete {Z} (Leads.by-unit {A = A} {X = X} m l) = leads-back Z (unit A X) m (here (leads-complete l))
-  leads-complete {Z} (Leads.by-left {A = A} {X = X} {Y = Y} m l) =
-      leads-back Z (pair A X Y) m (here (leads-complete l))
-  leads-complete {Z} (Leads.by-right {A = A} {X = X} {Y = Y} m l) =
-      leads-back Z (pair A X Y) m (there (here (leads-complete l)))
+    leads-back : (ρ : Rule) → Among rules ρ → Any (λ X. leads rules set X ≡ true) (body ρ) →
+        leads rules set (head ρ) ≡ true
+    unfolding leads
+    leads-back ρ m a =
+        grown-closed Back rules _ below ρ m (head ρ) (in-any (leads rules set) (λ X p. p) a) (stands-first (head ρ) [])
+
+    pub leads-complete : {X Z : ℕ} → Leads (Among rules) X Z → set Z ≡ true → leads rules set X ≡ true
+    unfolding leads
+    leads-complete {X} Leads.here e = grown-keeps Back rules _ X e
+    leads-complete (Leads.by-unit {A = A} {X = X} m l) e = leads-back (unit A X) m (here (leads-complete l e))
+    leads-complete (Leads.by-left {A = A} {X = X} {Y = Y} m l) e =
+        leads-back (pair A X Y) m (here (leads-complete l e))
+    leads-complete (Leads.by-right {A = A} {X = X} {Y = Y} m l) e =
+        leads-back (pair A X Y) m (there (here (leads-complete l e)))
+
+  pub leads-to-is : (Z X : ℕ) → (leads rules (λ Y. eqb Z Y) X ≡ true) ↔ Leads (Among rules) X Z
+  leads-to-is Z X = (
+    λ e. let (Y, same, l) = leads-sound (λ Y. eqb Z Y) X e in rw (← eqb-true Z Y same) at l,
+    λ l. leads-complete (λ Y. eqb Z Y) l (eq-eqb Z Z refl),
+  )
+
+  pub to-terminal-is : (X : ℕ) → (toTerminal rules X ≡ true) ↔ LeadsToTerminal (Among rules) X
+  to-terminal-is X = (
+    λ e. let (a, t, l) = leads-sound isTerminal X e in (a, terminal-test a t, l),
+    λ t. leads-complete isTerminal (t .2) (test-terminal (t .0) (t .1)),
+  )

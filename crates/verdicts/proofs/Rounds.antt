@@ -1,14 +1,14 @@
 -- Rounds of growth. What a closed set contains stays within it, and n rounds over n symbols leave a closed set: a
 -- round that changes anything makes the count of the set grow. Assumes nothing.
 use Rattle.grammar.proofs.Basics.{_≡_, refl, _∙_, ⊎-elim, inl, inr, _⊎_, true, Bool, List, _∷_, ℕ, _<_, _≤_, suc, zero}
-use Rattle.grammar.proofs.Basics.{eq-or-lt-of-le, arith, and-left, and-right, or-split, or-right}
+use Rattle.grammar.proofs.Basics.{eq-or-lt-of-le, arith, Subset, and-left, and-right, or-split, or-right}
 use Rattle.grammar.specs.Counting.{count}
 use Rattle.grammar.specs.Rule.{Rule, Among, head, body}
 use Rattle.grammar.proofs.Counting.{count-monotone, count-equal, count-all, count-bound}
 use Rattle.grammar.proofs.Strings.{All}
 use Rattle.verdicts.specs.declared.Direction.{Direction}
 use Rattle.verdicts.specs.Sets.{standsIn, ready, added, round, rounds, grown}
-use Rattle.verdicts.proofs.Tests.{Subset, ready-grows, added-has, any-rule, rule-any}
+use Rattle.verdicts.proofs.Tests.{ready-grows, added-has, any-rule, rule-any}
 
 -- the rules add nothing to the set
 abbrev pub ClosedUnder : Direction → List Rule → (ℕ → Bool) → Type 0

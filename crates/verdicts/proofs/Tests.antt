@@ -2,16 +2,13 @@
 -- members. Assumes nothing.
 use Rattle.grammar.proofs.Basics.{_≡_, refl, ap₂, ⊎-elim, true, Bool, _&&_, _||_, false≢true, or-false, or-true}
 use Rattle.grammar.proofs.Basics.{or-assoc, List, _∷_, [], _++_, List·Memᴰ·head, List·Memᴰ·tail, List·Memᴰ·not-nil}
-use Rattle.grammar.proofs.Basics.{List·Memᴰ·cases-cons, ℕ, _<_, eq-eqb, eqb-true, cases, and-left, and-right, or-split}
+use Rattle.grammar.proofs.Basics.{List·Memᴰ·cases-cons, ℕ, _<_, eq-eqb, eqb-true, cases, Subset, and-left, and-right}
+use Rattle.grammar.proofs.Basics.{or-split}
 use Rattle.grammar.specs.Rule.{Rule, Among, head, body}
 use Rattle.grammar.proofs.Strings.{All, nil, cons, Any, here, there}
 use Rattle.verdicts.specs.declared.Direction.{Direction}
 use Rattle.verdicts.specs.declared.Direction.the-variants.{Up, Down, Back}
 use Rattle.verdicts.specs.Sets.{allIn, anyIn, standsIn, ruleIn, within, anyRule, ready, added}
-
--- each symbol of a set is in another
-abbrev pub Subset : (ℕ → Bool) → (ℕ → Bool) → Type 0
-Subset s t = (X : ℕ) → s X ≡ true → t X ≡ true
 
 -- the tests as statements on the symbols of a string
 pub all-in :

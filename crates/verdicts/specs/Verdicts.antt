@@ -3,14 +3,11 @@
 use Prim.Native.Nat.{ℕ}
 use mathlib.Core.Bool.{Bool, false, cond, not, _&&_, _||_}
 use mathlib.Core.List.{List, _∷_}
-use lib.Dec.{eqb, ltb, leb}
+use lib.Dec.{eqb}
+use Rattle.grammar.specs.Symbol.{isTerminal}
 use Rattle.grammar.specs.Rule.{Rule, head, body, empty, unit, pair}
 use Rattle.verdicts.specs.declared.Direction.the-variants.{Up, Down, Back}
-use Rattle.verdicts.specs.Sets.{anyIn, standsIn, within, anyRule, grown}
-
--- The job: terminals are 32 to 63
-abbrev pub isTerminal : ℕ → Bool
-isTerminal X = leb 32 X && ltb X 64
+use Rattle.verdicts.specs.Sets.{standsIn, within, anyRule, grown}
 
 -- Verdicts: the symbols that derive a terminal string. [Lecture 25], Theorem 25.1, from the bottom up: the terminals,
 -- and the head of a rule whose body is all productive.
@@ -26,22 +23,30 @@ useful rules S = grown Down (within (productive rules) rules) (λ X. eqb S X && 
 abbrev pub usefulRules : List Rule → ℕ → List Rule
 usefulRules rules S = within (useful rules S) rules
 
--- the symbols that lead to Z in the graph of [Lecture 25], Theorem 25.4: Z, and the head of a rule with some symbol of
--- its body among them
-unfoldable pub leads : List Rule → ℕ → ℕ → Bool
-leads rules Z = grown Back rules (λ X. eqb Z X)
+-- the symbols that lead to one of a set in the graph of [Lecture 25], Theorem 25.4: those of the set, and the head of
+-- a rule with some symbol of its body among them
+unfoldable pub leads : List Rule → (ℕ → Bool) → ℕ → Bool
+leads rules set = grown Back rules set
 
--- a pair rule with a symbol of its body that leads back to its head
+-- the symbols that lead to a terminal; among useful rules, those that derive a terminal string that is not empty
+abbrev pub toTerminal : List Rule → ℕ → Bool
+toTerminal rules = leads rules isTerminal
+
+-- one of two symbols is in a set, and the other in another
+abbrev pub oneEach : (ℕ → Bool) → (ℕ → Bool) → ℕ → ℕ → Bool
+oneEach set other X Y = (set X && other Y) || (set Y && other X)
+
+-- a pair rule with one symbol that leads back to its head, and with another beside it that leads to a terminal
 abbrev pub onCycle : List Rule → Rule → Bool
 onCycle rules (empty A) = false
 onCycle rules (unit A X) = false
-onCycle rules (pair A X Y) = anyIn (leads rules A) (body (pair A X Y))
+onCycle rules (pair A X Y) = oneEach (leads rules (λ Z. eqb A Z)) (toTerminal rules) X Y
 
--- some pair rule stands on a cycle of the rules
+-- some rule of the list is such a pair rule
 unfoldable pub cyclic : List Rule → Bool
 cyclic rules = anyRule (onCycle rules) rules
 
--- Verdicts: a grammar grows if a pair rule stands on a cycle of its useful rules
+-- Verdicts: a grammar grows if one of its useful rules is such a pair rule among them
 abbrev pub growing : List Rule → ℕ → Bool
 growing rules S = cyclic (usefulRules rules S)
 

@@ -5,9 +5,9 @@ ghost use mathlib.Core.Path.{_≡_};
 ghost use mathlib.Core.Bool.{Bool, _&&_, _||_};
 ghost use Prim.Native.Nat.{ℕ, _<_};
 ghost use lib.Dec.{eqb};
+ghost use Rattle.grammar.specs.Symbol.{isTerminal};
 ghost use Rattle.grammar.specs.Rule.{body};
 ghost use Rattle.verdicts.specs.Sets.{allIn, anyIn, standsIn, ruleIn};
-ghost use Rattle.verdicts.specs.Verdicts.{isTerminal};
 ghost use Rattle.verdicts.specs.Inside.Flags.{Flags, flagged, Bits, Raised, ruleFrom, RuleFits};
 
 // Makes a flag 1 if a test says so. Returns how many flags that made 1: one or none.

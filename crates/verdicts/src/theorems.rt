@@ -23,12 +23,12 @@ pub fn code_is_meant()
     ensures theorem { λ _. ⌜ CodeIsMeant ⌝ }
 {}
 
-// A pair rule on a cycle of the useful rules is what growing means.
+// The computed cycle of the useful rules is what growing means.
 pub fn growing_is_meant()
     ensures theorem { λ _. ⌜ GrowingIsMeant ⌝ }
 {}
 
-// Codes, empty and growing of a call that is not refused are the papers', both ways.
+// Codes, empty and growing of a call that is not refused are what they mean, both ways.
 pub fn verdicts_are_meant()
     ensures theorem { λ _. ⌜ VerdictsAreMeant ⌝ }
 {}

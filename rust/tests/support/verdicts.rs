@@ -44,11 +44,11 @@ fn derives_around(rules: &[Rule], from: usize, x: usize) -> bool {
     closure(rules, edges, 2).contains(&(0, from, 1))
 }
 
-/// Whether `x` derives αxβ with αβ not empty, over all symbols: pre* of Σ+ x Σ* ∪ Σ* x Σ+.
+/// Whether `x` derives u x v with terminal strings u and v, not both empty: pre* of T+ x T* ∪ T* x T+.
 fn grows(rules: &[Rule], x: usize) -> bool {
     // States: 0 nothing read, 1 something read before x, 2 x read with nothing around it yet, 3 x and something else read.
     let mut edges: Edges = HashSet::new();
-    for a in 0..64 {
+    for a in 32..64 {
         edges.extend([(0, a, 1), (1, a, 1), (2, a, 3), (3, a, 3)]);
     }
     edges.extend([(0, x, 2), (1, x, 3)]);
@@ -77,14 +77,6 @@ pub fn verdicts(job: &Job) -> Found {
             (true, true) => 1,
         };
     }
-    let useful = |x: u8| codes[x as usize] == 1;
-    let kept: Vec<Rule> = rules
-        .iter()
-        .filter(|rule| {
-            useful(rule.head) && (rule.kind == b'E' || useful(rule.second)) && (rule.kind != b'P' || useful(rule.third))
-        })
-        .copied()
-        .collect();
-    let growing = (0..64).any(|x| codes[x] == 1 && grows(&kept, x));
+    let growing = (0..64).any(|x| codes[x] == 1 && grows(rules, x));
     Found { codes, empty: !productive(job.start), growing }
 }

@@ -4,7 +4,6 @@ use Prim.Native.Nat.{ℕ}
 use mathlib.Core.Logic.{_⊎_}
 use Rattle.grammar.specs.Symbol.{IsTerminal}
 use Rattle.grammar.specs.Rule.{Rules, empty, unit, pair}
-use Rattle.grammar.specs.Growing.{UsefulRules}
 
 -- [Lecture 25], Theorem 25.1, from the bottom up: terminals, and the head of a rule whose body is all in the set
 pub data Generating (R : Rules) : ℕ → Type 0 where
@@ -28,8 +27,14 @@ pub data Leads (R : Rules) : ℕ → ℕ → Type 0 where
   by-left : {A X Y Z : ℕ} → R (pair A X Y) → Leads R X Z → Leads R A Z
   by-right : {A X Y Z : ℕ} → R (pair A X Y) → Leads R Y Z → Leads R A Z
 
--- a cycle through a pair rule, among the rules whose symbols are all useful
-abbrev pub PairCycle : Rules → ℕ → Type 0
-PairCycle R S =
-    (A : ℕ) × (X : ℕ) × (Y : ℕ) × UsefulRules R S (pair A X Y) ×
-    (Leads (UsefulRules R S) X A ⊎ Leads (UsefulRules R S) Y A)
+-- from X to a terminal
+abbrev pub LeadsToTerminal : Rules → ℕ → Type 0
+LeadsToTerminal R X = (a : ℕ) × IsTerminal a × Leads R X a
+
+-- one of two symbols leads to Z, and the other to a terminal
+abbrev pub OneLeads : Rules → (Z X Y : ℕ) → Type 0
+OneLeads R Z X Y = (Leads R X Z × LeadsToTerminal R Y) ⊎ (Leads R Y Z × LeadsToTerminal R X)
+
+-- a pair rule with one symbol that leads back to its head, and with another beside it that leads to a terminal
+abbrev pub GrowingCycle : Rules → Type 0
+GrowingCycle R = (A : ℕ) × (X : ℕ) × (Y : ℕ) × R (pair A X Y) × OneLeads R A X Y

@@ -1,18 +1,18 @@
--- The search for a pair rule on a cycle, head by head. Assumes nothing.
+-- The search for a pair rule on a cycle that grows, head by head. Assumes nothing.
 use Prim.Native.Nat.{ℕ}
 use mathlib.Core.Bool.{Bool, false, _&&_}
 use mathlib.Core.List.{List}
 use lib.Dec.{eqb}
-use Rattle.grammar.specs.Rule.{Rule, body, empty, unit, pair}
-use Rattle.verdicts.specs.Sets.{anyIn, anyRule}
-use Rattle.verdicts.specs.Verdicts.{leads}
+use Rattle.grammar.specs.Rule.{Rule, empty, unit, pair}
+use Rattle.verdicts.specs.Sets.{anyRule}
+use Rattle.verdicts.specs.Verdicts.{leads, toTerminal, oneEach}
 
--- a pair rule of the head Z with a symbol of its body in the set
-abbrev pub pairTo : ℕ → (ℕ → Bool) → Rule → Bool
-pairTo Z set (empty A) = false
-pairTo Z set (unit A X) = false
-pairTo Z set (pair A X Y) = eqb A Z && anyIn set (body (pair A X Y))
+-- a pair rule of the head Z with one symbol of its body in a set, and the other in another
+abbrev pub pairTo : ℕ → (ℕ → Bool) → (ℕ → Bool) → Rule → Bool
+pairTo Z set other (empty A) = false
+pairTo Z set other (unit A X) = false
+pairTo Z set other (pair A X Y) = eqb A Z && oneEach set other X Y
 
--- a pair rule of the head Z stands on a cycle of the rules
+-- a pair rule of the head Z stands on a cycle of the rules that grows
 abbrev pub cycleAt : ℕ → List Rule → Bool
-cycleAt Z rules = anyRule (pairTo Z (leads rules Z)) rules
+cycleAt Z rules = anyRule (pairTo Z (leads rules (λ X. eqb Z X)) (toTerminal rules)) rules

@@ -7,8 +7,9 @@ use mathlib.Core.Bool.{true, false}
 use mathlib.Core.List.{List}
 use lib.ListN.{getD}
 use Rattle.grammar.specs.Rule.{Rule, Among}
-use Rattle.grammar.specs.Useful.{Productive, Useful}
-use Rattle.grammar.specs.Growing.{UsefulRules, Growing}
+use Rattle.grammar.specs.Useful.{Productive, Useful, UsefulRules}
+use Rattle.grammar.specs.Growing.{Growing}
+use Rattle.grammar.specs.Language.{Infinite, Finite}
 use Rattle.job.specs.Job.{jobOf}
 use Rattle.job.specs.Theorems.InRange.{RuleInRange}
 use Rattle.verdicts.specs.Verdicts.{productive, useful, usefulRules, growing, codeOf}
@@ -42,7 +43,8 @@ unfoldable pub GrowingIsMeant : Type 0
 GrowingIsMeant =
     (rules : List Rule) → RulesInRange rules → (S : ℕ) → (growing rules S ≡ true) ↔ Growing (Among rules) S
 
--- What a call that is not refused says of its job. Not empty: the start symbol derives a terminal string.
+-- What a call that is not refused says of its job. Not empty: the start symbol derives a terminal string. Growing: the
+-- language has infinitely many strings; not growing: it has finitely many.
 pub record Meant (job table codes : List ℕ) : Type 0 where
   pub code :
       (X c : ℕ) → X < 64 →
@@ -54,6 +56,10 @@ pub record Meant (job table codes : List ℕ) : Type 0 where
       (verdictsOf job table codes .answer .empty ≡ false) ↔ Productive (Among (jobOf job .rules)) (jobOf job .start)
   pub growing :
       (verdictsOf job table codes .answer .growing ≡ true) ↔ Growing (Among (jobOf job .rules)) (jobOf job .start)
+  pub infinite :
+      (verdictsOf job table codes .answer .growing ≡ true) ↔ Infinite (Among (jobOf job .rules)) (jobOf job .start)
+  pub finite :
+      (verdictsOf job table codes .answer .growing ≡ false) ↔ Finite (Among (jobOf job .rules)) (jobOf job .start)
 
 unfoldable pub VerdictsAreMeant : Type 0
 VerdictsAreMeant = (job table codes : List ℕ) → verdictsCheck job table codes .number ≡ 0 → Meant job table codes

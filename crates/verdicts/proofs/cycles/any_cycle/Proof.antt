@@ -1,46 +1,14 @@
--- `verdicts::cycles::any_cycle` meets its contract: none of the first a variables heads a pair rule on a cycle.
+-- `verdicts::cycles::any_cycle` meets its contract: what leads to a terminal is flagged, then a cycle is looked for.
 -- Assumes nothing.
-use Rattle.grammar.proofs.Basics.{_≡_, _∙_, sym, false, Bool, ℕ, _<_, _≤_, _-_, arith}
-use borrow.Author.Count.{below-none, below-more}
-use Rattle.verdicts.specs.Sets.{within}
-use Rattle.verdicts.specs.Inside.Flags.{Holds, rulesOfKeys}
-use Rattle.verdicts.specs.Inside.Cycles.{cycleAt}
-use Rattle.verdicts.proofs.Tests.{within-among}
-use Rattle.verdicts.proofs.KeyRules.{keys-head-below}
-use Rattle.verdicts.proofs.Cyclic.{cyclic-found, cyclic-none}
+use Rattle.grammar.proofs.Basics.{needs}
+use Rattle.verdicts.proofs.Raising.{flags-test}
 use Rattle.verdicts.proofs.cycles.any_cycle.Statement.{statement}
 use Rattle.verdicts.proofs.cycles.any_cycle.Tie as tie
 
-abbrev Inv-loop : tie.InvT-loop
-Inv-loop keys n counts a₀ a =
-    (a ≤ 32)
-    × ((counting : ℕ → Bool) → Holds counting counts → (A : ℕ) → A < a →
-    cycleAt A (within counting (rulesOfKeys keys n)) ≡ false)
-
-abbrev μ-loop : tie.MeasureT-loop
-μ-loop keys n counts a₀ a = 32 - a
-
-returns : tie.Need-returns Inv-loop μ-loop
-returns c = λ counting cs.
-    sym (cyclic-found _ (c .before .before .before .loop .a)
-    (sym (c .before .cycle-at .ensures counting cs) ∙ c .if1 .taken))
-
-loop-again : tie.Need-loop-again Inv-loop μ-loop
-loop-again c =
-    let l = c .before .before .before in (
-      omega arith,
-      λ counting cs. below-more _ (l .loop .a) (l .loop .inv .1 counting cs)
-          (sym (c .before .cycle-at .ensures counting cs) ∙ c .if1 .left),
-    )
-
-returns-2 : tie.Need-returns-2 Inv-loop μ-loop
-returns-2 c = λ counting cs.
-    let l = c .before in
-    sym
-    (cyclic-none _
-    (λ ρ m. keys-head-below (l .before .pre) ρ (within-among counting _ ρ m .0))
-    (λ A h. l .loop .inv .1 counting cs A (omega arith)))
+returns : tie.Need-returns
+returns c =
+    λ counting cs. c .cycle-at-any .ensures counting cs
+    (flags-test (c .before .before .terminal-leading-symbols .ensures counting cs))
 
 pub any-cycle-spec : {M : Type 1} → statement M
-any-cycle-spec = tie.close (tie.spec Inv-loop μ-loop (λ c. (omega arith, λ counting cs. below-none _))
-    (λ c κs. (c .before .before .pre, omega arith)) returns (λ c. omega arith) (λ c. omega arith) loop-again returns-2)
+any-cycle-spec = tie.close (tie.spec (λ c κs. search needs) (λ c κs. search needs) returns)

@@ -11,17 +11,17 @@ use Rattle.verdicts.proofs.cycles.any_pair_to.Statement.{statement}
 use Rattle.verdicts.proofs.cycles.any_pair_to.Tie as tie
 
 abbrev Inv-loop : tie.InvT-loop
-Inv-loop keys n counts symbol leading found₀ k₀ found k =
+Inv-loop keys n counts symbol back terminal found₀ k₀ found k =
     (k ≤ n)
-    × ((counting s : ℕ → Bool) → Holds counting counts → Holds s leading →
-    found ≡ anyRule (λ ρ. ruleIn counting ρ && pairTo symbol s ρ) (rulesOfKeys keys k))
+    × ((counting s other : ℕ → Bool) → Holds counting counts → Holds s back → Holds other terminal →
+    found ≡ anyRule (λ ρ. ruleIn counting ρ && pairTo symbol s other ρ) (rulesOfKeys keys k))
 
 abbrev μ-loop : tie.MeasureT-loop
-μ-loop keys n counts symbol leading found₀ k₀ found k = n - k
+μ-loop keys n counts symbol back terminal found₀ k₀ found k = n - k
 
 loop-holds : tie.Need-loop-holds Inv-loop μ-loop
 unfolding anyRule
-loop-holds c = (omega arith, λ counting s cs held. refl)
+loop-holds c = (omega arith, λ counting s other cs b t. refl)
 
 found-pair-requires : tie.Need-found-pair-requires Inv-loop μ-loop
 found-pair-requires c κs =
@@ -41,25 +41,25 @@ loop-again c =
     let more = rules-more keys (l .loop .k) (omega (arith, s .pre .long)) in
     let read = read-rule (getD keys (l .loop .k) 0) (u .unpack .ensures) in (
       omega arith,
-      λ counting set cs held.
+      λ counting set other cs b t.
           rw (
             c .found-pair .ensures,
-            l .loop .inv .1 counting set cs held,
+            l .loop .inv .1 counting set other cs b t,
             more,
             any-rule-more,
             ← read,
             all-same cs below,
-            pair-same (s .args .symbol) held (ruleFrom (u .unpack .result)) below,
+            pair-same (s .args .symbol) b t (ruleFrom (u .unpack .result)) below,
           ),
     )
 
 returns : tie.Need-returns Inv-loop μ-loop
-returns c = λ counting set cs held.
+returns c = λ counting set other cs b t.
     let s = c .before .before in
     let e : c .before .loop .k ≡ s .args .n = omega arith in
     let f = rw e at (c .before .loop .inv .1) in
-    f counting set cs held ∙ sym
-    (any-within counting (pairTo (s .args .symbol) set) (rulesOfKeys (s .args .keys .now) (s .args .n)))
+    f counting set other cs b t ∙ sym
+    (any-within counting (pairTo (s .args .symbol) set other) (rulesOfKeys (s .args .keys .now) (s .args .n)))
 
 pub any-pair-to-spec : {M : Type 1} → statement M
 any-pair-to-spec = tie.close (tie.spec Inv-loop μ-loop loop-holds (λ c. omega arith) (λ c. omega arith)

@@ -7,8 +7,8 @@ use Rattle.verdicts.proofs.cycles.cycle_at.Tie as tie
 
 returns : tie.Need-returns
 returns c =
-    λ counting cs. c .any-pair-to .ensures counting _ cs
-    (flags-test (c .before .before .leading-symbols .ensures counting cs))
+    λ counting cs t. c .any-pair-to .ensures counting _ _ cs
+    (flags-test (c .before .before .leading-symbols .ensures counting cs)) t
 
 pub cycle-at-spec : {M : Type 1} → statement M
 cycle-at-spec = tie.close (tie.spec (λ c κs. search needs) (λ c κs. c .before .before .before .pre .0) returns)

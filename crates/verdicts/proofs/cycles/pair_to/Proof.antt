@@ -27,4 +27,4 @@ pair-to-spec =
       ne-eqb _ 85 (e .if2 .left),
       eq-eqb _ _ (c .before .if3 .left),
     )
-    (c .body-any .ensures)))
+    (c .one-each .ensures)))

@@ -1,7 +1,7 @@
 -- `verdicts::flags::flag_terminals` meets its contract: the first x flags are written. Assumes nothing.
 use Rattle.grammar.proofs.Basics.{_≡_, refl, _∙_, ap, _≤_, _-_, arith, length, replicate, needs}
 use Rattle.grammar.specs.Counting.{one-if}
-use Rattle.verdicts.specs.Verdicts.{isTerminal}
+use Rattle.grammar.specs.Symbol.{isTerminal}
 use Rattle.verdicts.specs.Operation.{written}
 use Rattle.verdicts.proofs.Filling.{written-long, written-more, written-flags}
 use Rattle.verdicts.proofs.flags.flag_terminals.Statement.{statement}

@@ -1,5 +1,5 @@
--- `verdicts::theorems::growing_is_meant` meets its contract: a pair rule on a cycle is what growing means. Assumes
--- nothing.
+-- `verdicts::theorems::growing_is_meant` meets its contract: a cycle of the useful rules that grows is what
+-- growing means. Assumes nothing.
 use Rattle.verdicts.specs.Theorems.Meant.{GrowingIsMeant}
 use Rattle.verdicts.proofs.GrowingIsCycle.{growing-is}
 use Rattle.verdicts.proofs.KeyRules.{range-below}

@@ -1,7 +1,8 @@
 -- `verdicts::usefulness::productive_symbols` meets its contract: the terminals grow upwards, by all rules. Assumes
 -- nothing.
 use Rattle.grammar.proofs.Basics.{true, needs}
-use Rattle.verdicts.specs.Verdicts.{isTerminal, productive}
+use Rattle.grammar.specs.Symbol.{isTerminal}
+use Rattle.verdicts.specs.Verdicts.{productive}
 use Rattle.verdicts.specs.Inside.Flags.{rulesOfKeys}
 use Rattle.verdicts.proofs.Tests.{within-all}
 use Rattle.verdicts.proofs.Raising.{flags-test, flags-bits, ones-held}
