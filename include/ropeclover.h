@@ -46,6 +46,21 @@
  * 1 + 32 * rank + middle state. Bytes and numbers past ROPECLOVER_TABLE_BYTES and ROPECLOVER_REASONS are neither read nor written. Any contents
  * are allowed: ropeclover_start writes all of them.
  *
+ * THE BIT TABLE
+ *
+ * A table in a quarter of the memory, for ropeclover_start_bits, ropeclover_advance_bits, ropeclover_ask_bits and ropeclover_done_count. It has
+ * two halves of ROPECLOVER_HALF_BYTES, the pending half first, then the done half. The transition (q, X, r) has the place p = q * 2048 + X * 32 + r,
+ * and in each half bit p % 8, the lowest being bit 0, of byte p / 8:
+ *
+ *   pending bit 0, done bit 0    absent
+ *   pending bit 1, done bit 0    pending
+ *   pending bit 0, done bit 1    done
+ *   pending bit 1, done bit 1    done; no step takes it, and both bits stay
+ *
+ * The reasons are as above. From a start, after any number of steps, a bit table says of each transition what the table says, and the reasons and
+ * answers are the same. Bytes past ROPECLOVER_BIT_TABLE_BYTES are neither read nor written. Any contents are allowed: ropeclover_start_bits writes
+ * both halves whole. ropeclover_explain and ropeclover_verdicts take the table of bytes only.
+ *
  * AN EXAMPLE
  *
  * S -> a | A A and A -> S A | b, with the automaton 0 -a-> 1 -b-> 2 -a-> 1, final state 2. It prints 'accepted', as S derives the string ab.
@@ -99,8 +114,12 @@ extern "C" {
 
 /* The lengths to lend. A longer buffer is taken too; a shorter one is refused. */
 #define ROPECLOVER_TABLE_BYTES 65536
+#define ROPECLOVER_BIT_TABLE_BYTES 16384
 #define ROPECLOVER_REASONS 32768
 #define ROPECLOVER_CODES 64
+
+/* The bytes of a half of the bit table: the done half begins here. */
+#define ROPECLOVER_HALF_BYTES 8192
 
 /* The longest job, and its records of four bytes. */
 #define ROPECLOVER_JOB_BYTES 16384
@@ -133,7 +152,7 @@ extern "C" {
  * success. ropeclover_binarize has an order of its own. */
 enum ropeclover_refusal {
     ROPECLOVER_ACCEPTED = 0,
-    ROPECLOVER_SHORT_BUFFER = 10,       /* the place is 1 for the table, 2 for the reasons, 3 for the codes */
+    ROPECLOVER_SHORT_BUFFER = 10,       /* the place is 1 for the table or bit table, 2 for the reasons, 3 for the codes */
     ROPECLOVER_JOB_TOO_LONG = 2,        /* over ROPECLOVER_JOB_BYTES; the place is the job's length */
     ROPECLOVER_PARTIAL_RECORD = 1,      /* the length is no multiple of 4; the place is the number of whole records */
     ROPECLOVER_UNKNOWN_KIND = 3,
@@ -182,6 +201,24 @@ void ropeclover_advance(const uint8_t *job, size_t job_len, uint8_t *table, size
  * state is final. answer[2]: whether it is accepted. */
 void ropeclover_ask(const uint8_t *job, size_t job_len, const uint8_t *table, size_t table_len, const uint8_t *form, size_t form_len,
                     uint64_t answer[3]);
+
+/* As ropeclover_start, but a bit table is written: a bit of its pending half for each pending transition, all other bits 0. answer[2]: the number of
+ * states. */
+void ropeclover_start_bits(const uint8_t *job, size_t job_len, uint8_t *bits, size_t bits_len, uint16_t *reasons, size_t reasons_len,
+                           uint64_t answer[3]);
+
+/* As ropeclover_advance, on any bit table: a step clears the pending bit of the transition that it takes and sets its done bit. answer[2]: whether no
+ * transition is pending any more; answer[3]: the steps made; answer[4]: the rise in pair meetings of the done transitions. */
+void ropeclover_advance_bits(const uint8_t *job, size_t job_len, uint8_t *bits, size_t bits_len, uint16_t *reasons, size_t reasons_len,
+                             uint64_t n, uint64_t answer[5]);
+
+/* As ropeclover_ask, on a bit table, which is only read. answer[2]: whether the form is accepted. */
+void ropeclover_ask_bits(const uint8_t *job, size_t job_len, const uint8_t *bits, size_t bits_len, const uint8_t *form, size_t form_len,
+                         uint64_t answer[3]);
+
+/* Counts the done transitions of a bit table, which is only read: the ones in its done half. The only refusal is 10, place 1. answer[2]: their
+ * number. */
+void ropeclover_done_count(const uint8_t *bits, size_t bits_len, uint64_t answer[3]);
 
 /* Starts, runs to the end, and lists why the form is accepted: records of 8 bytes, each after its premises, each transition once, along the
  * accepting state sequence that comes first in lexicographic order. A record is q, X, r, then 'G' 0 0 0 0 for a given transition, or the rule's

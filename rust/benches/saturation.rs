@@ -1,6 +1,6 @@
 //! Speed, as ratios in one run: the library against a plain Rust worklist over the same byte table with an index of pending rows, and against
-//! gringo and SWI-Prolog where they are installed, which compute the same closure as Datalog; the count of states by itself against a plain
-//! loop. Results are checked equal before a time is shown.
+//! gringo and SWI-Prolog where they are installed, which compute the same closure as Datalog; the bit table against the table of bytes and against a
+//! plain Rust machine over words; the count of states by itself against a plain loop. Results are checked equal before a time is shown.
 #[path = "support/datalog.rs"]
 mod datalog;
 #[path = "support/jobs.rs"]
@@ -10,10 +10,15 @@ mod jobs;
 mod random;
 #[path = "support/states.rs"]
 mod states;
+#[path = "support/words.rs"]
+mod words;
 #[path = "support/worklist.rs"]
 mod worklist;
 
-use ropeclover::{advance, ask, explain, show_refused, start, verdicts};
+use ropeclover::{
+    advance, advance_bits, ask, ask_bits, done_count, explain, show_refused, start, start_bits, verdicts,
+};
+use ropeclover::{Advanced, BIT_TABLE_BYTES, HALF_BYTES, REASONS};
 use std::hint::black_box;
 use std::time::{Duration, Instant};
 
@@ -50,10 +55,28 @@ fn row(what: &str, taken: Duration, baseline: Option<(&str, Duration)>) {
     match baseline {
         Some((name, other)) => {
             let ratio = taken.as_secs_f64() / other.as_secs_f64();
-            println!("  {what:<28} {micros:>12.1} us   {ratio:>8.2} x {name} ({:.1} us)", other.as_secs_f64() * 1e6);
+            println!("  {what:<34} {micros:>12.1} us   {ratio:>8.2} x {name} ({:.1} us)", other.as_secs_f64() * 1e6);
         }
-        None => println!("  {what:<28} {micros:>12.1} us"),
+        None => println!("  {what:<34} {micros:>12.1} us"),
     }
+}
+
+/// What the table of bytes took and left, for the bit table to be compared with.
+struct Bytes {
+    found: Advanced,
+    table: Vec<u8>,
+    reasons: Vec<u16>,
+    to_the_end: Duration,
+    accepted: bool,
+    ask: Duration,
+    /// The first step.
+    one: Advanced,
+    by_one: Duration,
+}
+
+/// The form of the start symbol.
+fn start_form(job: &[u8]) -> [u8; 1] {
+    [job.chunks(4).find(|r| r[0] == b'S').expect("a start symbol")[1]]
 }
 
 fn bench(name: &str, job: &[u8]) {
@@ -77,14 +100,69 @@ fn bench(name: &str, job: &[u8]) {
             row(&format!("against {tool}"), taken, Some((tool, at.elapsed())));
         }
     }
-    let form = [job.chunks(4).find(|r| r[0] == b'S').expect("a start symbol")[1]];
-    row("ask on the finished table", time(|| ask(job, &table, &form).unwrap()).1, None);
+    let form = start_form(job);
+    let (accepted, asked) = time(|| ask(job, &table, &form).unwrap());
+    row("ask on the finished table", asked, None);
+    let (finished, finished_reasons) = (table.clone(), reasons.clone());
     start(job, &mut table, &mut reasons).unwrap();
-    row("advance by 1", time(|| advance(job, &mut table, &mut reasons, 1).unwrap()).1, None);
+    let one = advance(job, &mut table, &mut reasons, 1).unwrap();
+    let by_one = time(|| advance(job, &mut table, &mut reasons, 1).unwrap()).1;
+    row("advance by 1", by_one, None);
     let mut listing = vec![0; 8 * 65_536];
     row("explain", time(|| explain(job, &mut table, &mut reasons, &form, &mut listing).unwrap()).1, None);
     let mut codes = [0; 64];
     row("verdicts", time(|| verdicts(job, &mut table, &mut codes).unwrap()).1, None);
+    let bytes = Bytes {
+        found,
+        table: finished,
+        reasons: finished_reasons,
+        to_the_end: taken,
+        accepted,
+        ask: asked,
+        one,
+        by_one,
+    };
+    bench_bits(job, &bytes);
+}
+
+/// Whether a finished bit table says of each place what a finished table of bytes says.
+fn says_the_same(bits: &[u8], table: &[u8]) -> bool {
+    let has = |half: &[u8], place: usize| half[place / 8] >> (place % 8) & 1 == 1;
+    let (pending, done) = bits.split_at(HALF_BYTES);
+    let mut places = table.iter().enumerate();
+    places.all(|(place, byte)| !has(pending, place) && has(done, place) == (*byte == 2))
+}
+
+fn bench_bits(job: &[u8], bytes: &Bytes) {
+    let (mut bits, mut reasons) = (vec![0; BIT_TABLE_BYTES], vec![0; REASONS]);
+    let (found, taken) = time(|| {
+        start_bits(job, &mut bits, &mut reasons).unwrap();
+        advance_bits(job, &mut bits, &mut reasons, u64::MAX).unwrap()
+    });
+    assert_eq!(found, bytes.found, "bits and bytes differ");
+    assert!(says_the_same(&bits, &bytes.table) && reasons == bytes.reasons, "bits and bytes leave different memory");
+    let (mut other_bits, mut other_reasons) = (Box::new([0; BIT_TABLE_BYTES]), Box::new([0; REASONS]));
+    let (expected, other) = time(|| words::saturate(job, &mut other_bits, &mut other_reasons));
+    assert_eq!((found.steps, found.meetings), (expected.examined, expected.joins), "the two saturations differ");
+    assert!(bits == other_bits[..] && reasons == other_reasons[..], "the two saturations leave different memory");
+    row("bits: start and advance to the end", taken, Some(("bytes", bytes.to_the_end)));
+    row("bits: start and advance to the end", taken, Some(("words", other)));
+    bench_bits_calls(job, bytes, &mut bits, &mut reasons);
+}
+
+/// The other calls, on a finished bit table and its reasons.
+fn bench_bits_calls(job: &[u8], bytes: &Bytes, bits: &mut [u8], reasons: &mut [u16]) {
+    let form = start_form(job);
+    let (accepted, asked) = time(|| ask_bits(job, bits, &form).unwrap());
+    assert_eq!(accepted, bytes.accepted, "bits and bytes answer differently");
+    row("bits: ask on the finished table", asked, Some(("bytes", bytes.ask)));
+    let (count, counted) = time(|| done_count(black_box(bits)).unwrap());
+    assert_eq!(count, bytes.found.steps, "the done count is not the number of steps");
+    row("bits: done count", counted, None);
+    start_bits(job, bits, reasons).unwrap();
+    assert_eq!(advance_bits(job, bits, reasons, 1), Ok(bytes.one), "the first steps differ");
+    let by_one = time(|| advance_bits(job, bits, reasons, 1).unwrap()).1;
+    row("bits: advance by 1", by_one, Some(("bytes", bytes.by_one)));
 }
 
 /// The count of states by itself, without the checks that start makes before it.

@@ -1,4 +1,4 @@
-//! The library's seven functions on lent memory.
+//! The library's functions on lent memory, but those on a bit table.
 use crate::{ffi, Refusal};
 
 /// What [`advance`] answers.

@@ -51,6 +51,35 @@ extern "C" {
         codes_len: usize,
         answer: *mut u64,
     );
+    pub fn ropeclover_start_bits(
+        job: *const u8,
+        job_len: usize,
+        bits: *mut u8,
+        bits_len: usize,
+        reasons: *mut u16,
+        reasons_len: usize,
+        answer: *mut u64,
+    );
+    pub fn ropeclover_advance_bits(
+        job: *const u8,
+        job_len: usize,
+        bits: *mut u8,
+        bits_len: usize,
+        reasons: *mut u16,
+        reasons_len: usize,
+        n: u64,
+        answer: *mut u64,
+    );
+    pub fn ropeclover_ask_bits(
+        job: *const u8,
+        job_len: usize,
+        bits: *const u8,
+        bits_len: usize,
+        form: *const u8,
+        form_len: usize,
+        answer: *mut u64,
+    );
+    pub fn ropeclover_done_count(bits: *const u8, bits_len: usize, answer: *mut u64);
     pub fn ropeclover_binarize(text: *const u8, text_len: usize, job: *mut u8, job_len: usize, answer: *mut u64);
     pub fn ropeclover_show(job: *const u8, job_len: usize, answer: *mut u64);
 }

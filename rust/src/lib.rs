@@ -50,10 +50,12 @@
 //! ```
 //!
 //! The seven functions [`start`], [`advance`], [`ask`], [`explain`], [`verdicts`], [`show_refused`] and [`binarize`] are the library's, on lent
-//! memory; [`Workspace`] owns such memory and knows what it holds. [`text`] reads and writes jobs as text. [`long`] is for rules with more than
-//! two symbols in their bodies.
+//! memory; [`Workspace`] owns such memory and knows what it holds. [`start_bits`], [`advance_bits`], [`ask_bits`] and [`done_count`] are the
+//! library's for a table in a quarter of the memory. [`text`] reads and writes jobs as text. [`long`] is for rules with more than two symbols in
+//! their bodies.
 #![deny(missing_docs)]
 
+mod bits;
 mod calls;
 mod ffi;
 pub mod format;
@@ -67,6 +69,7 @@ mod shuffle;
 pub mod text;
 mod workspace;
 
+pub use bits::{advance_bits, ask_bits, done_count, start_bits};
 pub use calls::{advance, ask, binarize, explain, show_refused, start, verdicts, Advanced, Explained, Verdicts};
 pub use refusal::{Buffer, Refusal};
 pub use saturation::{Finished, Started};
@@ -79,6 +82,20 @@ pub use workspace::{Explanation, Report, Workspace};
 /// assert_eq!(ropeclover::Workspace::new().table().len(), ropeclover::TABLE_BYTES);
 /// ```
 pub const TABLE_BYTES: usize = 65_536;
+
+/// The bytes of a bit table that are read and written: its pending half and its done half. [`start_bits`] says what they hold.
+///
+/// ```
+/// assert_eq!(ropeclover::BIT_TABLE_BYTES, 2 * ropeclover::TABLE_BYTES / 8);
+/// ```
+pub const BIT_TABLE_BYTES: usize = 16_384;
+
+/// The bytes of a half of a bit table, so where its done half begins.
+///
+/// ```
+/// assert_eq!(2 * ropeclover::HALF_BYTES, ropeclover::BIT_TABLE_BYTES);
+/// ```
+pub const HALF_BYTES: usize = 8_192;
 
 /// The reasons that are read and written.
 ///

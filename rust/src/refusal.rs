@@ -14,6 +14,8 @@ use std::fmt;
 pub enum Buffer {
     /// The table, [`TABLE_BYTES`](crate::TABLE_BYTES) long.
     Table,
+    /// The bit table, [`BIT_TABLE_BYTES`](crate::BIT_TABLE_BYTES) long.
+    Bits,
     /// The reasons, [`REASONS`](crate::REASONS) numbers.
     Reasons,
     /// The codes, [`CODES`](crate::CODES) long.
@@ -197,6 +199,20 @@ impl Refusal {
         }
     }
 
+    /// The refusal of a number and a place by a function on a bit table, which is shorter than a table.
+    ///
+    /// ```
+    /// use ropeclover::{Buffer, Refusal};
+    /// assert_eq!(Refusal::of_bits(10, 1), Refusal::ShortBuffer(Buffer::Bits));
+    /// assert_eq!(Refusal::of_bits(10, 2), Refusal::new(10, 2));
+    /// ```
+    pub fn of_bits(number: u64, place: u64) -> Self {
+        match (number, place) {
+            (10, 1) => Refusal::ShortBuffer(Buffer::Bits),
+            (number, place) => Refusal::new(number, place),
+        }
+    }
+
     /// The number and the place.
     fn parts(self) -> (u64, u64) {
         match self {
@@ -209,7 +225,7 @@ impl Refusal {
             Refusal::TooManyRules { record } => (7, record),
             Refusal::NoStart { records } => (8, records),
             Refusal::NoInitial { records } => (9, records),
-            Refusal::ShortBuffer(Buffer::Table) => (10, 1),
+            Refusal::ShortBuffer(Buffer::Table | Buffer::Bits) => (10, 1),
             Refusal::ShortBuffer(Buffer::Reasons) => (10, 2),
             Refusal::ShortBuffer(Buffer::Codes) => (10, 3),
             Refusal::NoSymbol { position } => (11, position),
@@ -287,6 +303,7 @@ impl fmt::Display for Refusal {
                 write!(f, "none of the {records} records is an I record: the initial state is missing")
             }
             Refusal::ShortBuffer(Buffer::Table) => write!(f, "the lent table has fewer than 65536 bytes"),
+            Refusal::ShortBuffer(Buffer::Bits) => write!(f, "the lent bit table has fewer than 16384 bytes"),
             Refusal::ShortBuffer(Buffer::Reasons) => write!(f, "the lent reasons are fewer than 32768 numbers"),
             Refusal::ShortBuffer(Buffer::Codes) => write!(f, "the lent codes have fewer than 64 bytes"),
             Refusal::NoSymbol { position } => {

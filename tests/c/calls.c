@@ -43,6 +43,155 @@ static void saturates(void)
     same("accepted", answer[2], 1);
 }
 
+enum { DONE = ROPECLOVER_HALF_BYTES, PAST = 16 };
+
+/* A bit table and what stands past it. */
+static uint8_t bits[ROPECLOVER_BIT_TABLE_BYTES + PAST];
+
+/* A byte of a bit table: the pending half first, then the done half. */
+struct byte {
+    size_t at;
+    uint8_t byte;
+};
+
+/* Whether the bit table has these bytes, all others of its halves are 0, and what stands past it is 7. */
+static void has_bits(const char *what, const struct byte *expected, size_t length)
+{
+    static uint8_t whole[sizeof bits];
+    memset(whole, 0, ROPECLOVER_BIT_TABLE_BYTES);
+    memset(whole + ROPECLOVER_BIT_TABLE_BYTES, 7, PAST);
+    for (size_t i = 0; i < length; i++) {
+        whole[expected[i].at] = expected[i].byte;
+    }
+    same(what, (uint64_t)memcmp(bits, whole, sizeof bits), 0);
+}
+
+/* Whether an answer begins with these numbers. */
+static void answers(const char *what, const uint64_t *answer, const uint64_t *expected, size_t length)
+{
+    for (size_t i = 0; i < length; i++) {
+        same(what, answer[i], expected[i]);
+    }
+}
+
+/* The same job on a bit table. The place of (0, 32, 1) is 1025 = 8 * 128 + 1, of (1, 33, 2) 3106 = 8 * 388 + 2, of (2, 32, 1) 5121 = 8 * 640 + 1. */
+static void saturates_bits(void)
+{
+    static const struct byte begun[] = {{128, 0x02}, {388, 0x04}, {640, 0x02}};
+    /* (0, 32, 1) is done, and (0, 0, 1), of place 1, is pending. */
+    static const struct byte after_one[] = {{0, 0x02}, {388, 0x04}, {640, 0x02}, {DONE + 128, 0x02}};
+    static const struct byte finished[] = {
+        {DONE + 0, 0x06},   /* (0, 0, 1) and (0, 0, 2) */
+        {DONE + 4, 0x04},   /* (0, 1, 2) */
+        {DONE + 128, 0x02},
+        {DONE + 256, 0x04}, /* (1, 0, 2) */
+        {DONE + 260, 0x04}, /* (1, 1, 2) */
+        {DONE + 388, 0x04},
+        {DONE + 512, 0x06}, /* (2, 0, 1) and (2, 0, 2) */
+        {DONE + 516, 0x04}, /* (2, 1, 2) */
+        {DONE + 640, 0x02},
+    };
+    static const uint8_t form[] = {0};
+    uint64_t answer[5];
+    memset(bits, 7, sizeof bits);
+    memset(reasons, 7, sizeof reasons);
+    ropeclover_start_bits(job, sizeof job, bits, sizeof bits, reasons, ROPECLOVER_REASONS, answer);
+    answers("bits: start", answer, (const uint64_t[]){0, 0, 3}, 3);
+    has_bits("bits: begun", begun, sizeof begun / sizeof begun[0]);
+    same("bits: no reason yet", reasons[1], 0);
+    ropeclover_done_count(bits, sizeof bits, answer);
+    answers("bits: none done", answer, (const uint64_t[]){0, 0, 0}, 3);
+    ropeclover_advance_bits(job, sizeof job, bits, sizeof bits, reasons, ROPECLOVER_REASONS, 1, answer);
+    answers("bits: one step", answer, (const uint64_t[]){0, 0, 0, 1, 0}, 5);
+    has_bits("bits: after one step", after_one, sizeof after_one / sizeof after_one[0]);
+    /* By 0 -> 32, of rank 1. */
+    same("bits: a reason", reasons[1], 1 + 32);
+    ropeclover_ask_bits(job, sizeof job, bits, sizeof bits, form, 1, answer);
+    answers("bits: not accepted yet", answer, (const uint64_t[]){0, 0, 0}, 3);
+    ropeclover_advance_bits(job, sizeof job, bits, sizeof bits, reasons, ROPECLOVER_REASONS, UINT64_MAX, answer);
+    answers("bits: to the end", answer, (const uint64_t[]){0, 0, 1, 10, 8}, 5);
+    has_bits("bits: finished", finished, sizeof finished / sizeof finished[0]);
+    /* (0, 0, 2) by 0 -> 1 1, of rank 0, with the middle 2. */
+    same("bits: the last reason", reasons[2], 1 + 2);
+    ropeclover_ask_bits(job, sizeof job, bits, sizeof bits, form, 1, answer);
+    answers("bits: accepted", answer, (const uint64_t[]){0, 0, 1}, 3);
+    ropeclover_done_count(bits, sizeof bits, answer);
+    answers("bits: eleven done", answer, (const uint64_t[]){0, 0, 11}, 3);
+}
+
+/* A place with both bits is done: no step takes it, and the table is finished. */
+static void keeps_both_bits(void)
+{
+    static const struct byte both[] = {{128, 0x02}, {DONE + 128, 0x02}};
+    static const uint8_t form[] = {32};
+    uint64_t answer[5];
+    memset(bits, 0, ROPECLOVER_BIT_TABLE_BYTES);
+    bits[128] = bits[DONE + 128] = 0x02;
+    ropeclover_advance_bits(job, sizeof job, bits, sizeof bits, reasons, ROPECLOVER_REASONS, UINT64_MAX, answer);
+    answers("both bits: nothing to do", answer, (const uint64_t[]){0, 0, 1, 0, 0}, 5);
+    has_bits("both bits: kept", both, 2);
+    ropeclover_done_count(bits, sizeof bits, answer);
+    answers("both bits: counted once", answer, (const uint64_t[]){0, 0, 1}, 3);
+    /* (0, 32, 1) leads to 1, and 2 is final. */
+    ropeclover_ask_bits(job, sizeof job, bits, sizeof bits, form, 1, answer);
+    answers("both bits: not accepted", answer, (const uint64_t[]){0, 0, 0}, 3);
+}
+
+/* Start and advance refused, for the fault that comes first: the answer is whole, and all that is lent stays. */
+static void refuses_bits(void)
+{
+    static const struct {
+        size_t bits, reasons, job;
+        uint64_t number, place;
+    } cases[] = {
+        {0, 0, 3, ROPECLOVER_SHORT_BUFFER, 1},
+        {ROPECLOVER_HALF_BYTES, ROPECLOVER_REASONS, sizeof job, ROPECLOVER_SHORT_BUFFER, 1},
+        {ROPECLOVER_BIT_TABLE_BYTES - 1, ROPECLOVER_REASONS, sizeof job, ROPECLOVER_SHORT_BUFFER, 1},
+        {ROPECLOVER_BIT_TABLE_BYTES, ROPECLOVER_REASONS - 1, 39, ROPECLOVER_SHORT_BUFFER, 2},
+        {ROPECLOVER_BIT_TABLE_BYTES, ROPECLOVER_REASONS, 39, ROPECLOVER_PARTIAL_RECORD, 9},
+        {ROPECLOVER_BIT_TABLE_BYTES, ROPECLOVER_REASONS, 20, ROPECLOVER_NO_INITIAL, 5},
+    };
+    static uint8_t bits_before[sizeof bits];
+    static uint16_t reasons_before[ROPECLOVER_REASONS];
+    memset(bits, 0x5a, sizeof bits);
+    memset(reasons, 0x5a, sizeof reasons);
+    memcpy(bits_before, bits, sizeof bits);
+    memcpy(reasons_before, reasons, sizeof reasons);
+    for (size_t i = 0; i < sizeof cases / sizeof cases[0]; i++) {
+        const uint64_t expected[5] = {cases[i].number, cases[i].place};
+        uint64_t answer[5] = {9, 9, 9, 9, 9};
+        ropeclover_start_bits(job, cases[i].job, bits, cases[i].bits, reasons, cases[i].reasons, answer);
+        answers("bits: start refused", answer, expected, 3);
+        memset(answer, 9, sizeof answer);
+        ropeclover_advance_bits(job, cases[i].job, bits, cases[i].bits, reasons, cases[i].reasons, 9, answer);
+        answers("bits: advance refused", answer, expected, 5);
+    }
+    same("bits: the bit table stays", (uint64_t)memcmp(bits, bits_before, sizeof bits), 0);
+    same("bits: the reasons stay", (uint64_t)memcmp(reasons, reasons_before, sizeof reasons), 0);
+}
+
+/* Ask and the done count refused, for the fault that comes first. */
+static void refuses_to_read_bits(void)
+{
+    static const uint8_t form[ROPECLOVER_FORM_SYMBOLS + 1] = {0, ROPECLOVER_SYMBOLS};
+    uint64_t answer[3] = {9, 9, 9};
+    memset(bits, 0x5a, sizeof bits);
+    ropeclover_ask_bits(job, 39, bits, ROPECLOVER_BIT_TABLE_BYTES - 1, form, sizeof form, answer);
+    answers("bits: ask on a short table", answer, (const uint64_t[]){ROPECLOVER_SHORT_BUFFER, 1, 0}, 3);
+    ropeclover_ask_bits(job, 39, bits, sizeof bits, form, sizeof form, answer);
+    answers("bits: ask with 39 bytes", answer, (const uint64_t[]){ROPECLOVER_PARTIAL_RECORD, 9, 0}, 3);
+    ropeclover_ask_bits(job, sizeof job, bits, sizeof bits, form, sizeof form, answer);
+    answers("bits: a form too long", answer, (const uint64_t[]){ROPECLOVER_FORM_TOO_LONG, 65, 0}, 3);
+    ropeclover_ask_bits(job, sizeof job, bits, sizeof bits, form, 2, answer);
+    answers("bits: no symbol", answer, (const uint64_t[]){ROPECLOVER_NO_SYMBOL, 1, 0}, 3);
+    memset(answer, 9, sizeof answer);
+    ropeclover_done_count(bits, ROPECLOVER_BIT_TABLE_BYTES - 1, answer);
+    answers("bits: count on a short table", answer, (const uint64_t[]){ROPECLOVER_SHORT_BUFFER, 1, 0}, 3);
+    ropeclover_done_count(bits, ROPECLOVER_BIT_TABLE_BYTES, answer);
+    /* 0x5a has four ones. */
+    answers("bits: count", answer, (const uint64_t[]){0, 0, 4 * ROPECLOVER_HALF_BYTES}, 3);
+}
+
 static void explains(void)
 {
     uint64_t answer[4];
@@ -296,6 +445,10 @@ static void has_limits_of_long_bodies(void)
 int main(void)
 {
     saturates();
+    saturates_bits();
+    keeps_both_bits();
+    refuses_bits();
+    refuses_to_read_bits();
     explains();
     takes_terminals_in_pairs();
     judges();

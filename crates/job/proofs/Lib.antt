@@ -11,6 +11,7 @@ pub mod OrderFree
 pub mod AcceptedFacts
 pub mod Records
 pub mod Earlier
+pub mod Marks
 pub mod Walk
 pub mod Insertion
 pub mod RefusedPlace

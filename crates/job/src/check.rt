@@ -3,16 +3,19 @@ use crate::Checked;
 use crate::JOB_BYTES;
 use crate::JobRecord;
 use crate::Limits;
+use crate::MARKS;
 use crate::Tally;
 use crate::format;
 use crate::one_if;
 ghost use mathlib.Core.Path.{_≡_};
+ghost use mathlib.Core.Bool.{cond};
 ghost use mathlib.Core.List.{[]};
 ghost use Prim.Native.Nat.{_+_, _<_, _≤_, _%_};
-ghost use lib.ListN.{length};
+ghost use lib.Dec.{eqb};
+ghost use lib.ListN.{length, getD, set};
 ghost use Rattle.job.specs.Format.{fieldClasses, recordsOf};
 ghost use Rattle.job.specs.Check.{checkOf, firstFault, missing, orElse, refused, recordPlace};
-ghost use Rattle.job.specs.Inside.Walk.{formFault, orderFault, counted, missingBy};
+ghost use Rattle.job.specs.Inside.Walk.{formFault, orderFault, counted, missingBy, markOf};
 
 // 3 or 4 where the record itself is at fault, else 0.
 pub fn form_fault(r: JobRecord) -> usize
@@ -97,8 +100,37 @@ fn refuse(number: usize, index: usize, r: JobRecord) -> Checked
     }
 }
 
-// Refusals 3 to 9 on the records of a job of whole records. Each record is compared with all before it; at a match the
-// search stops at once, out of both walks.
+// The number at which a record is marked once it is met. The transitions of up to seven labels in a row all have their
+// own: 1033 is past the 1024 pairs of states, and seven times that is below 8192.
+fn mark_of(r: JobRecord) -> usize
+    ensures mark { λ m. ⌜ (m ≡ markOf r) × (m < 8192) ⌝ }
+{
+    (r.first as usize * 32 + r.second as usize * 1033 + r.third as usize) % MARKS
+}
+
+// Where the search for a record among the first i starts: at i, so that it is over at once, where the record is not
+// marked and so was not met.
+fn search_from(marks: &[u8], r: JobRecord, i: usize) -> usize
+    requires long { ⌜ length (now marks) ≡ 8192 ⌝ }
+    ensures start { λ j. ⌜ j ≡ cond (eqb (getD (now (marks .entry)) (markOf r) 0) 0) i 0 ⌝ }
+{
+    let mark = marks[mark_of(r)];
+    match mark {
+        0 => i,
+        _ => 0,
+    }
+}
+
+// Marks a record as met.
+fn set_mark(marks: &mut [u8], r: JobRecord)
+    requires long { ⌜ length (now marks) ≡ 8192 ⌝ }
+    ensures marked { λ _. ⌜ now (marks .exit) ≡ set (now (marks .entry)) (markOf r) 1 ⌝ }
+{
+    marks[mark_of(r)] = 1;
+}
+
+// Refusals 3 to 9 on the records of a job of whole records. Each record that may have been met is compared with all
+// before it; at a match the search stops at once, out of both walks.
 pub fn check_records(job: &[u8], limits: Limits, needed: bool) -> Checked
     requires whole { ⌜ (length (now job) ≤ 16384) × (length (now job) % 4 ≡ 0) ⌝ }
     ensures checked { λ r. ⌜ r ≡ orElse (firstFault fieldClasses limits [] (recordsOf (now (job .entry))))
@@ -110,6 +142,7 @@ pub fn check_records(job: &[u8], limits: Limits, needed: bool) -> Checked
         starts: 0,
         initials: 0,
     };
+    let mut marks = [0u8; MARKS];
     let mut i = 0;
     'walk: while i < count {
         let r = format::record_at(job, i);
@@ -117,7 +150,7 @@ pub fn check_records(job: &[u8], limits: Limits, needed: bool) -> Checked
         if form != 0 {
             return refuse(form, i, r);
         }
-        let mut j = 0;
+        let mut j = search_from(&marks, r, i);
         while j < i {
             if format::alike(job, j, r) {
                 break 'walk;
@@ -129,6 +162,7 @@ pub fn check_records(job: &[u8], limits: Limits, needed: bool) -> Checked
             return refuse(order, i, r);
         }
         seen = count_in(seen, r);
+        set_mark(&mut marks, r);
         i += 1;
     }
     if i < count {

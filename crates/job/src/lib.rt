@@ -22,6 +22,9 @@ pub const SYMBOLS: usize = 64;
 // How many states there are.
 pub const STATES: usize = 32;
 
+// How many marks a job's check keeps for the records that it met.
+pub const MARKS: usize = 8192;
+
 // The most symbols that a form may have.
 pub const FORM_SYMBOLS: usize = 64;
 

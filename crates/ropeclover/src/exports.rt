@@ -1,6 +1,8 @@
 // The C interface: each operation with its answer as a fixed array that is always written whole.
 // include/ropeclover.h is its manual.
 use crate::operations;
+use forms::Asked;
+use saturation::Advanced;
 ghost use mathlib.Core.Path.{_≡_};
 ghost use mathlib.Core.List.{_∷_, []};
 ghost use lib.ListN.{length};
@@ -11,7 +13,8 @@ ghost use Rattle.forms.specs.Operations.{askOf, explainOf};
 ghost use Rattle.verdicts.specs.Operation.{verdictsOf};
 ghost use Rattle.ropeclover.specs.Exports.{startNumbers, advanceNumbers, askNumbers, explainNumbers};
 ghost use Rattle.binarize.specs.Operation.{binarizeOf};
-ghost use Rattle.ropeclover.specs.Exports.{verdictsNumbers, showNumbers, binarizeNumbers};
+ghost use Rattle.bits.specs.Operations.{startBitsOf, advanceBitsOf, askBitsOf, doneCountOf};
+ghost use Rattle.ropeclover.specs.Exports.{verdictsNumbers, showNumbers, binarizeNumbers, countNumbers};
 
 // The numbers of an answer.
 fn write2(answer: &mut [u64], a: u64, b: u64)
@@ -52,6 +55,33 @@ fn write5(answer: &mut [u64], a: u64, b: u64, c: u64, d: u64, e: u64)
     answer[4] = e;
 }
 
+// The answer of advance, and that of ask, on either kind of table.
+fn write_advanced(answer: &mut [u64], r: Advanced)
+    requires long { ⌜ length (now answer) ≡ 5 ⌝ }
+    ensures written { λ _. ⌜ now (answer .exit) ≡ advanceNumbers r ⌝ }
+{
+    write5(
+        answer,
+        r.number as u64,
+        r.place as u64,
+        job::one_if(r.finished) as u64,
+        r.steps,
+        r.meetings,
+    );
+}
+
+fn write_asked(answer: &mut [u64], r: Asked)
+    requires long { ⌜ length (now answer) ≡ 3 ⌝ }
+    ensures written { λ _. ⌜ now (answer .exit) ≡ askNumbers r ⌝ }
+{
+    write3(
+        answer,
+        r.number as u64,
+        r.place as u64,
+        job::one_if(r.accepted) as u64,
+    );
+}
+
 #[no_mangle]
 pub extern "C" fn ropeclover_start(
     job: &[u8],
@@ -83,14 +113,7 @@ pub extern "C" fn ropeclover_advance(
         ≡ advanceOf (now (job .entry)) (lentOf (now (table .entry)) (now (reasons .entry))) n .lent ⌝ }
 {
     let r = operations::advance(job, table, reasons, n);
-    write5(
-        answer,
-        r.number as u64,
-        r.place as u64,
-        job::one_if(r.finished) as u64,
-        r.steps,
-        r.meetings,
-    );
+    write_advanced(answer, r);
 }
 
 #[no_mangle]
@@ -99,12 +122,7 @@ pub extern "C" fn ropeclover_ask(job: &[u8], table: &[u8], form: &[u8], answer: 
         ≡ askNumbers (askOf (now (job .entry)) (now (table .entry)) (now (form .entry))) ⌝ }
 {
     let r = operations::ask(job, table, form);
-    write3(
-        answer,
-        r.number as u64,
-        r.place as u64,
-        job::one_if(r.accepted) as u64,
-    );
+    write_asked(answer, r);
 }
 
 #[no_mangle]
@@ -176,4 +194,55 @@ pub extern "C" fn ropeclover_binarize(text: &[u8], job: &mut [u8], answer: &mut 
 {
     let r = operations::binarize(text, job);
     write3(answer, r.number as u64, r.place as u64, r.records as u64);
+}
+
+#[no_mangle]
+pub extern "C" fn ropeclover_start_bits(
+    job: &[u8],
+    bits: &mut [u8],
+    reasons: &mut [u16],
+    answer: &mut [u64; 3],
+)
+    ensures answered { λ _. ⌜ now (answer .exit)
+        ≡ startNumbers (startBitsOf (now (job .entry)) (lentOf (now (bits .entry)) (now (reasons .entry))) .answer) ⌝ }
+    ensures left { λ _. ⌜ lentOf (now (bits .exit)) (now (reasons .exit))
+        ≡ startBitsOf (now (job .entry)) (lentOf (now (bits .entry)) (now (reasons .entry))) .lent ⌝ }
+{
+    let r = operations::start_bits(job, bits, reasons);
+    write3(answer, r.number as u64, r.place as u64, r.states as u64);
+}
+
+#[no_mangle]
+pub extern "C" fn ropeclover_advance_bits(
+    job: &[u8],
+    bits: &mut [u8],
+    reasons: &mut [u16],
+    n: u64,
+    answer: &mut [u64; 5],
+)
+    ensures answered { λ _. ⌜ now (answer .exit)
+        ≡ advanceNumbers
+        (advanceBitsOf (now (job .entry)) (lentOf (now (bits .entry)) (now (reasons .entry))) n .answer) ⌝ }
+    ensures left { λ _. ⌜ lentOf (now (bits .exit)) (now (reasons .exit))
+        ≡ advanceBitsOf (now (job .entry)) (lentOf (now (bits .entry)) (now (reasons .entry))) n .lent ⌝ }
+{
+    let r = operations::advance_bits(job, bits, reasons, n);
+    write_advanced(answer, r);
+}
+
+#[no_mangle]
+pub extern "C" fn ropeclover_ask_bits(job: &[u8], bits: &[u8], form: &[u8], answer: &mut [u64; 3])
+    ensures answered { λ _. ⌜ now (answer .exit)
+        ≡ askNumbers (askBitsOf (now (job .entry)) (now (bits .entry)) (now (form .entry))) ⌝ }
+{
+    let r = operations::ask_bits(job, bits, form);
+    write_asked(answer, r);
+}
+
+#[no_mangle]
+pub extern "C" fn ropeclover_done_count(bits: &[u8], answer: &mut [u64; 3])
+    ensures answered { λ _. ⌜ now (answer .exit) ≡ countNumbers (doneCountOf (now (bits .entry))) ⌝ }
+{
+    let r = operations::done_count(bits);
+    write3(answer, r.number as u64, r.place as u64, r.count);
 }

@@ -1,6 +1,7 @@
 // The operations. No call needs anything of its input: whatever is wrong with it is refused, with a number and a
 // place.
 use binarize::Binarized;
+use bits::Counted;
 use forms::Asked;
 use forms::Explained;
 use saturation::Advanced;
@@ -13,6 +14,7 @@ ghost use Rattle.saturation.specs.Table.{lentOf};
 ghost use Rattle.forms.specs.Operations.{askOf, explainOf, explainLeaves};
 ghost use Rattle.verdicts.specs.Operation.{verdictsOf, verdictsLeave};
 ghost use Rattle.binarize.specs.Operation.{binarizeOf, binarizeLeaves};
+ghost use Rattle.bits.specs.Operations.{startBitsOf, advanceBitsOf, askBitsOf, doneCountOf};
 
 // Writes the table and the reasons that the job starts from, and answers its number of states.
 pub fn start(job: &[u8], table: &mut [u8], reasons: &mut [u16]) -> Started
@@ -74,4 +76,35 @@ pub fn binarize(text: &[u8], job: &mut [u8]) -> Binarized
     ensures left { λ r. ⌜ binarizeLeaves r (now (job .exit)) ≡ binarizeOf (now (text .entry)) (now (job .entry)) ⌝ }
 {
     binarize::operation::binarize(text, job)
+}
+
+// Start on a bit table: it writes all of both halves.
+pub fn start_bits(job: &[u8], bits: &mut [u8], reasons: &mut [u16]) -> Started
+    ensures left { λ r. ⌜ startLeaves r (lentOf (now (bits .exit)) (now (reasons .exit)))
+        ≡ startBitsOf (now (job .entry)) (lentOf (now (bits .entry)) (now (reasons .entry))) ⌝ }
+{
+    bits::operations::start(job, bits, reasons)
+}
+
+// Advance on a bit table, whatever it holds: the steps of the byte table that says the same. What holds of them stands
+// in crate bits' specs/Theorems.
+pub fn advance_bits(job: &[u8], bits: &mut [u8], reasons: &mut [u16], n: u64) -> Advanced
+    ensures left { λ r. ⌜ advanceLeaves r (lentOf (now (bits .exit)) (now (reasons .exit)))
+        ≡ advanceBitsOf (now (job .entry)) (lentOf (now (bits .entry)) (now (reasons .entry))) n ⌝ }
+{
+    bits::operations::advance(job, bits, reasons, n)
+}
+
+// Whether a form is accepted on a lent bit table, which is only read.
+pub fn ask_bits(job: &[u8], bits: &[u8], form: &[u8]) -> Asked
+    ensures answered { λ r. ⌜ r ≡ askBitsOf (now (job .entry)) (now (bits .entry)) (now (form .entry)) ⌝ }
+{
+    bits::ask::ask(job, bits, form)
+}
+
+// The number of done places of a lent bit table, which is only read.
+pub fn done_count(bits: &[u8]) -> Counted
+    ensures counted { λ r. ⌜ r ≡ doneCountOf (now (bits .entry)) ⌝ }
+{
+    bits::count::done_count(bits)
 }

@@ -15,7 +15,8 @@ pub record Passed (job : List ℕ) (m : Lent) : Type 0 where
   pub long-reasons : reasonsSize ≤ length (m .reasons)
   pub ok : Accepted true job
 
-each-passed : (a b : Bool) (d : Checked) →
+-- both buffers are long enough, and the job's check passes
+pub each-passed : (a b : Bool) (d : Checked) →
     orElse (orElse (cond a (refused 10 1) accepted) (cond b (refused 10 2) accepted)) d .number ≡ 0 →
     (a ≡ false) × (b ≡ false) × (d .number ≡ 0)
 each-passed true b d e = absurd (omega arith)

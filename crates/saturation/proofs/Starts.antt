@@ -7,3 +7,5 @@ pub mod StartLoops
 pub mod StartRules
 pub mod StartDone
 pub mod StartWalk
+pub mod Giving
+pub mod Looping

@@ -4,4 +4,5 @@ pub mod Taking
 pub mod StepLaws
 pub mod MeetingsMade
 pub mod FirstPart
+pub mod SameSteps
 pub mod Running

@@ -47,6 +47,13 @@ fn chain() -> Vec<u8> {
     job
 }
 
+/// S → S S | a on a ring of 32 states, from each of which S leads to every state.
+fn ring() -> Vec<u8> {
+    let mut job = chain();
+    job.extend([b'T', 31, 32, 0]);
+    job
+}
+
 /// A chain of unit rules over every pair of states.
 fn units() -> Vec<u8> {
     let mut job = frame(32);
@@ -97,6 +104,7 @@ pub fn all() -> Vec<(&'static str, Vec<u8>)> {
     vec![
         ("typical job (24 variables, 90 rules, 20 states)", typical()),
         ("S -> S S | a on a chain of 31", chain()),
+        ("S -> S S | a on a ring of 32", ring()),
         ("unit chain on a full table", units()),
         ("256 random pair rules on 32 states", pairs()),
         ("4096 records", records()),

@@ -1,5 +1,7 @@
 //! What the tests share: random numbers and jobs, and a machine written apart from the library, straight from the specification.
 #![allow(dead_code)]
+pub mod bits;
+pub mod bits_run;
 pub mod cky;
 pub mod infinite;
 pub mod jobs;

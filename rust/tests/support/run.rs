@@ -9,7 +9,7 @@ pub fn refusal<T>(result: Result<T, ropeclover::Refusal>) -> Result<T, machine::
 }
 
 /// A length now and then a little short, now and then longer than is used.
-fn length(random: &mut Random, full: usize) -> usize {
+pub fn length(random: &mut Random, full: usize) -> usize {
     match random.below(16) {
         0 => full - 1,
         1 => random.below(full),
@@ -29,7 +29,7 @@ fn table(random: &mut Random) -> Vec<u8> {
     }
 }
 
-fn steps(random: &mut Random) -> u64 {
+pub fn steps(random: &mut Random) -> u64 {
     match random.below(6) {
         0 => 0,
         1 => 1,

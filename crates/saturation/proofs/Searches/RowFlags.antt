@@ -1,11 +1,20 @@
 -- The flags of rows and blocks through a search: a flag is cleared only where nothing is pending, so the flags go on
--- saying the truth. Assumes nothing.
+-- saying the truth. Flags of 1 promise nothing. Assumes nothing.
 use Rattle.grammar.proofs.Basics.{_≡_, refl, _∙_, sym, List, _∷_, [], ℕ, _<_, _≤_, _+_, suc, _-_, zero, _*_, _/_, _%_}
 use Rattle.grammar.proofs.Basics.{arith, eqb, ltb, getD, set, getD-set-other, eqb-true, eqb-false, ltb-false, ltb-true}
-use Rattle.grammar.proofs.Basics.{cases}
+use Rattle.grammar.proofs.Basics.{cases, replicate}
+use lib.ListN.{getD-replicate}
 use Rattle.saturation.specs.Table.{tableSize}
 use Rattle.saturation.specs.Inside.Search.{Flags, LowestIn, RowsIdle, RowsSearched}
 use Rattle.saturation.proofs.Searches.Searching.{vain, lowest-none, lowest-next, lowest-found}
+
+-- flags of 1 promise nothing
+pub all-flagged : {t : List ℕ} → Flags (replicate 2048 1) (replicate 32 1) t
+all-flagged =
+    record {
+      rowsIdle = λ k h e j l. absurd (omega (arith, getD-replicate {A = ℕ} 2048 k 1 0 h));
+      blocksIdle = λ q h e j l. absurd (omega (arith, getD-replicate {A = ℕ} 32 q 1 0 h));
+    }
 
 -- a flag that is cleared is 0, and what was 0 stays so
 cleared-here : (l : List ℕ) (i : ℕ) → getD (set l i 0) i 0 ≡ 0

@@ -63,7 +63,7 @@ module _ (v w : Statuses) (agree : (p : ℕ) → p < tableSize → v p ≡ w p) 
           least-offer-cong _ _ (λ q X r ql xl rl. rw done-agree)
           (fromState p) (symbolAt p) (toState p) a A b (omega arith) (omega arith) al bl 0 ρs range
 
-      comes-in-agree : (a A b : ℕ) → a < 32 → A < 64 → b < 32 → comesIn ρs v p a A b ≡ comesIn ρs w p a A b
+      pub comes-in-agree : (a A b : ℕ) → a < 32 → A < 64 → b < 32 → comesIn ρs v p a A b ≡ comesIn ρs w p a A b
       comes-in-agree a A b al Al bl =
           ap₂ (λ s n. saysAbsent s && leb 1 n) (agree (place a A b) (omega arith)) (offered-agree a A b al bl)
 
@@ -72,7 +72,7 @@ module _ (v w : Statuses) (agree : (p : ℕ) → p < tableSize → v p ≡ w p) 
           ap (λ c. cond (leb tableSize i) old (cond (eqb i p) 2 (cond c 1 old)))
           (comes-in-agree (fromState i) (symbolAt i) (toState i) (omega arith) (omega arith) (omega arith))
 
-      reason-agree : (k old : ℕ) → k < reasonsSize → reasonAfter ρs v p k old ≡ reasonAfter ρs w p k old
+      pub reason-agree : (k old : ℕ) → k < reasonsSize → reasonAfter ρs v p k old ≡ reasonAfter ρs w p k old
       reason-agree k old h =
           ap₂ (λ c n. cond (leb reasonsSize k) old (cond c n old))
           (comes-in-agree (reasonState k) (reasonVariable k) (toState k) (omega arith) (omega arith) (omega arith))

@@ -1,7 +1,8 @@
 -- The lowest pending place: it is pending and none before it is, and there is none exactly where the table is
 -- finished. Assumes nothing.
-use Rattle.grammar.proofs.Basics.{_≡_, true, false, ℕ, _<_, _≤_, arith, leb-true, leb-false, cases, true-and-false}
-use Rattle.saturation.specs.Table.{tableSize, Statuses, isPendingAt}
+use Rattle.grammar.proofs.Basics.{_≡_, true, false, List, ℕ, _<_, _≤_, arith, getD, leb-true, leb-false, lt-leb, cases}
+use Rattle.grammar.proofs.Basics.{true-and-false}
+use Rattle.saturation.specs.Table.{tableSize, Statuses, isPendingAt, isPending, statuses}
 use Rattle.saturation.specs.Step.{lowest, isFinished}
 use Rattle.saturation.proofs.Tables.FirstFrom.{first-within, first-passes, first-cong, none-before-first}
 
@@ -24,6 +25,15 @@ module _ (v : Statuses) where
   pub none-pending-finished : ((p : ℕ) → p < tableSize → isPendingAt v p ≡ false) → isFinished v ≡ true
   none-pending-finished none =
       cases (isFinished v) (λ e. e) (λ e. true-and-false (lowest-is-pending e) (none (lowest v) (unfinished-below e)))
+
+-- where a search finds it, it is pending in the table of bytes
+pub found-pending : (t : List ℕ) (p : ℕ) → p ≡ lowest (statuses t) → (p ≡ tableSize → ⊥) →
+    (p < tableSize) × (isPending (getD t p 0) ≡ true)
+unfolding statuses
+found-pending t p low found =
+    let v = statuses t in
+    let below : p < tableSize = omega (arith, found, lowest-within v) in
+    (below, rw low (lowest-is-pending v (lt-leb tableSize (lowest v) (omega arith))))
 
 -- it depends on which places are pending alone
 pub lowest-cong :

@@ -6,8 +6,7 @@ use Rattle.ropeclover.proofs.exports.ropeclover_advance.Tie as tie
 
 pub ropeclover-advance-spec : {M : Type 1} → statement M
 ropeclover-advance-spec =
-    tie.close (tie.spec (λ c κs. search needs) (λ c κs. search needs) (λ c. search needs) (λ c κs. search needs)
-    (λ c. search needs) (λ c. search needs)
+    tie.close (tie.spec (λ c κs. search needs) (λ c κs. search needs) (λ c. search needs) (λ c. search needs)
     (λ c.
-    let done = c .before .before .before .before .before .before .before .advance .ensures in
-    rw (c .write5 .ensures, c .before .one-if .ensures, ← done) (refl, refl)))
+    let done = c .before .before .before .before .before .before .advance .ensures in
+    rw (c .write-advanced .ensures, ← done) (refl, refl)))

@@ -5,6 +5,5 @@ use Rattle.ropeclover.proofs.exports.ropeclover_ask.Tie as tie
 
 pub ropeclover-ask-spec : {M : Type 1} → statement M
 ropeclover-ask-spec =
-    tie.close (tie.spec (λ c κs. search needs) (λ c κs. search needs) (λ c. search needs)
-    (λ c κs. search needs)
-    (λ c. rw (c .write3 .ensures, c .before .one-if .ensures, ← c .before .before .before .ask .ensures)))
+    tie.close (tie.spec (λ c κs. search needs) (λ c κs. search needs)
+    (λ c. rw (c .write-asked .ensures, ← c .before .before .ask .ensures)))

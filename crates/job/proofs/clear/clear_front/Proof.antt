@@ -1,15 +1,15 @@
--- `clear::clear_table`. The loop's invariant: the first i bytes are cleared. Assumes nothing.
+-- `clear::clear_front`. The loop's invariant: the first i bytes are cleared. Assumes nothing.
 use Rattle.grammar.proofs.Basics.{_≡_, refl, _≤_, _-_, add-one, arith, length, length-set}
 use Rattle.job.specs.Clear.{cleared}
 use Rattle.job.proofs.Clearing.{cleared-more}
-use Rattle.job.proofs.clear.clear_table.Statement.{statement}
-use Rattle.job.proofs.clear.clear_table.Tie as tie
+use Rattle.job.proofs.clear.clear_front.Statement.{statement}
+use Rattle.job.proofs.clear.clear_front.Tie as tie
 
 abbrev Inv-loop : tie.InvT-loop
-Inv-loop table₀ i₀ table i = (i ≤ 65536) × (length table ≡ length table₀) × (table ≡ cleared i table₀)
+Inv-loop table₀ n i₀ table i = (i ≤ n) × (length table ≡ length table₀) × (table ≡ cleared i table₀)
 
 abbrev μ-loop : tie.MeasureT-loop
-μ-loop table₀ i₀ table i = 65536 - i
+μ-loop table₀ n i₀ table i = n - i
 
 loop-holds : tie.Need-loop-holds Inv-loop μ-loop
 unfolding cleared
@@ -23,9 +23,9 @@ loop-again c =
 returns : tie.Need-returns Inv-loop μ-loop
 returns c =
     let l = c .before .loop in
-    let e : l .i ≡ 65536 = omega arith in
+    let e : l .i ≡ c .before .before .args .n = omega arith in
     rw e at (l .inv .2)
 
-pub clear-table-spec : {M : Type 1} → statement M
-clear-table-spec = tie.close (tie.spec Inv-loop μ-loop loop-holds (λ c. omega arith) (λ c. omega arith)
+pub clear-front-spec : {M : Type 1} → statement M
+clear-front-spec = tie.close (tie.spec Inv-loop μ-loop loop-holds (λ c. omega arith) (λ c. omega arith)
     (λ c. omega arith) loop-again (λ c. c .before .loop .inv .1) returns)

@@ -1,0 +1,10 @@
+-- `theorems::runs_alike` meets its contract: what start leaves is alike, and each advance keeps it so. Assumes
+-- nothing.
+use Rattle.bits.specs.Theorems.Alike.{RunsAlike}
+use Rattle.bits.proofs.BitsAlike.{run-alike}
+use Rattle.bits.proofs.theorems.runs_alike.Statement.{statement}
+use Rattle.bits.proofs.theorems.runs_alike.Tie as tie
+
+pub runs-alike-spec : {M : Type 1} → statement M
+unfolding RunsAlike
+runs-alike-spec = tie.close (tie.spec (λ c. run-alike))

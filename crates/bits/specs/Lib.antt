@@ -1,0 +1,5 @@
+pub mod BitTable
+pub mod Machine
+pub mod Operations
+pub mod Theorems
+pub mod Inside
