@@ -6,7 +6,7 @@
 #include <stdio.h>
 
 static uint8_t table[ROPECLOVER_TABLE_BYTES];
-static uint16_t reasons[ROPECLOVER_REASONS];
+static uint32_t reasons[ROPECLOVER_REASONS];
 static uint8_t codes[ROPECLOVER_CODES];
 /* One byte more than a job may have, so that a longer one is refused. */
 static uint8_t job[ROPECLOVER_JOB_BYTES + 1];

@@ -42,9 +42,18 @@
  * THE LENT MEMORY
  *
  * The table has a byte for each transition (q, X, r), at q * 2048 + X * 32 + r: 0 absent, 1 pending, 2 done, 3 done and listed; 4 to 255 are
- * read as absent. The reasons have a number for each transition (q, A, r) of a variable, at q * 1024 + A * 32 + r: 0 none, 65535 given, else
- * 1 + 32 * rank + middle state. Bytes and numbers past ROPECLOVER_TABLE_BYTES and ROPECLOVER_REASONS are neither read nor written. Any contents
- * are allowed: ropeclover_start writes all of them.
+ * read as absent. The reasons have an entry for each transition (q, A, r) of a variable, at q * 1024 + A * 32 + r: its reason, which says why it
+ * is there, plus 65536 times its turn, which says when it was learned. ROPECLOVER_REASON and ROPECLOVER_TURN take an entry apart.
+ *
+ *   reason    0 none, 65535 given, else 1 + 32 * rank + middle state
+ *   turn      0 for what a start writes, given or by a rule A -> empty; for what a step adds, the number of done transitions right after that step
+ *
+ * Turns fall along reasons, and that is proved: if (q, A, r) has the reason A -> X Y with the middle m, the turns of (q, X, m) and (m, Y, r) are
+ * smaller than its own, for those of X and Y that are variables. This holds from a start on, until something other than ropeclover_advance and
+ * ropeclover_explain of that job, lent this table and these reasons, writes one of the two.
+ *
+ * Bytes and entries past ROPECLOVER_TABLE_BYTES and ROPECLOVER_REASONS are neither read nor written. Any contents are allowed: ropeclover_start
+ * writes all of them.
  *
  * THE BIT TABLE
  *
@@ -75,7 +84,7 @@
  *                                     'I', 0, 0, 0, 'F', 2, 0, 0, 'T', 0, 32, 1, 'T', 1, 33, 2, 'T', 2, 32, 1};
  *       static const uint8_t form[] = {0};
  *       static uint8_t table[ROPECLOVER_TABLE_BYTES];
- *       static uint16_t reasons[ROPECLOVER_REASONS];
+ *       static uint32_t reasons[ROPECLOVER_REASONS];
  *       uint64_t answer[ROPECLOVER_ANSWER_NUMBERS];
  *
  *       ropeclover_start(job, sizeof job, table, sizeof table, reasons, ROPECLOVER_REASONS, answer);
@@ -120,6 +129,10 @@ extern "C" {
 
 /* The bytes of a half of the bit table: the done half begins here. */
 #define ROPECLOVER_HALF_BYTES 8192
+
+/* The parts of an entry of the reasons. */
+#define ROPECLOVER_REASON(entry) ((uint32_t)(entry) % 65536)
+#define ROPECLOVER_TURN(entry) ((uint32_t)(entry) / 65536)
 
 /* The longest job, and its records of four bytes. */
 #define ROPECLOVER_JOB_BYTES 16384
@@ -187,13 +200,13 @@ enum ropeclover_code {
 };
 
 /* Writes the table and the reasons that the job starts from. answer[2]: the number of states. */
-void ropeclover_start(const uint8_t *job, size_t job_len, uint8_t *table, size_t table_len, uint16_t *reasons, size_t reasons_len,
+void ropeclover_start(const uint8_t *job, size_t job_len, uint8_t *table, size_t table_len, uint32_t *reasons, size_t reasons_len,
                       uint64_t answer[3]);
 
 /* Makes n steps, fewer if finished, on any table: each makes the pending transition of lowest place done, and those that follow from it and the
  * done ones pending. answer[2]: whether no transition is pending any more; answer[3]: the steps made; answer[4]: the rise in pair meetings of the
  * done transitions, the ways a P rule meets two adjoining ones. */
-void ropeclover_advance(const uint8_t *job, size_t job_len, uint8_t *table, size_t table_len, uint16_t *reasons, size_t reasons_len,
+void ropeclover_advance(const uint8_t *job, size_t job_len, uint8_t *table, size_t table_len, uint32_t *reasons, size_t reasons_len,
                         uint64_t n, uint64_t answer[5]);
 
 /* Whether the form leads from the initial state to a final one over the done transitions of the table, which is only read. On a table that this
@@ -204,12 +217,12 @@ void ropeclover_ask(const uint8_t *job, size_t job_len, const uint8_t *table, si
 
 /* As ropeclover_start, but a bit table is written: a bit of its pending half for each pending transition, all other bits 0. answer[2]: the number of
  * states. */
-void ropeclover_start_bits(const uint8_t *job, size_t job_len, uint8_t *bits, size_t bits_len, uint16_t *reasons, size_t reasons_len,
+void ropeclover_start_bits(const uint8_t *job, size_t job_len, uint8_t *bits, size_t bits_len, uint32_t *reasons, size_t reasons_len,
                            uint64_t answer[3]);
 
 /* As ropeclover_advance, on any bit table: a step clears the pending bit of the transition that it takes and sets its done bit. answer[2]: whether no
  * transition is pending any more; answer[3]: the steps made; answer[4]: the rise in pair meetings of the done transitions. */
-void ropeclover_advance_bits(const uint8_t *job, size_t job_len, uint8_t *bits, size_t bits_len, uint16_t *reasons, size_t reasons_len,
+void ropeclover_advance_bits(const uint8_t *job, size_t job_len, uint8_t *bits, size_t bits_len, uint32_t *reasons, size_t reasons_len,
                              uint64_t n, uint64_t answer[5]);
 
 /* As ropeclover_ask, on a bit table, which is only read. answer[2]: whether the form is accepted. */
@@ -224,7 +237,7 @@ void ropeclover_done_count(const uint8_t *bits, size_t bits_len, uint64_t answer
  * accepting state sequence that comes first in lexicographic order. A record is q, X, r, then 'G' 0 0 0 0 for a given transition, or the rule's
  * kind letter, field 2, field 3, the middle state, 0. The listing past the records is left as it was; ROPECLOVER_LISTING_BYTES are always enough.
  * answer[2]: whether the form is accepted; answer[3]: the number of records, 0 where it is not. */
-void ropeclover_explain(const uint8_t *job, size_t job_len, uint8_t *table, size_t table_len, uint16_t *reasons, size_t reasons_len,
+void ropeclover_explain(const uint8_t *job, size_t job_len, uint8_t *table, size_t table_len, uint32_t *reasons, size_t reasons_len,
                         const uint8_t *form, size_t form_len, uint8_t *listing, size_t listing_len, uint64_t answer[4]);
 
 /* Writes a code for each of the 64 symbols. The table is scratch: its first ROPECLOVER_TABLE_BYTES bytes are 0 afterwards. No I record is needed.

@@ -84,6 +84,9 @@ pub struct Explain {
     /// Print a Graphviz graph
     #[arg(long, conflicts_with = "format")]
     pub dot: bool,
+    /// Show the turn of each transition: how many were examined when it was learned, 0 where it was there from the start
+    #[arg(long)]
+    pub turns: bool,
     /// How to write the answer
     #[arg(long, value_enum, default_value_t)]
     pub format: Format,

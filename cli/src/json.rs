@@ -1,6 +1,7 @@
 //! Answers as JSON, for other programs. The objects are described in the manual page.
 use crate::input::{Input, Unreadable};
 use crate::print::codes::kind;
+use crate::print::turns::Turns;
 use crate::refused;
 use ropeclover::listing::{Reason, Record};
 use ropeclover::text::{Names, TextError};
@@ -39,7 +40,7 @@ fn names<'a>(name: impl Fn(u8) -> Option<&'a str>) -> Value {
     Value::Object(named.collect::<Map<String, Value>>())
 }
 
-fn record(record: &Record) -> Value {
+fn record(record: &Record, turns: Turns<'_>) -> Value {
     let (from, symbol, to) = record.transition;
     let (reason, body, middle) = match record.reason {
         Reason::Given => ("given", None, None),
@@ -47,15 +48,21 @@ fn record(record: &Record) -> Value {
         Reason::Unit(x) => ("unit", Some(vec![x]), None),
         Reason::Pair(b, c, middle) => ("pair", Some(vec![b, c]), Some(middle)),
     };
-    json!({ "from": from, "symbol": symbol, "to": to, "reason": reason, "body": body, "middle": middle })
+    let mut value =
+        json!({ "from": from, "symbol": symbol, "to": to, "reason": reason, "body": body, "middle": middle });
+    if let Some(turn) = turns.of(record.transition) {
+        value["turn"] = turn.into();
+    }
+    value
 }
 
-pub fn explanation(explanation: &Explanation, input: &Input) -> Value {
+pub fn explanation(explanation: &Explanation, input: &Input, turns: Turns<'_>) -> Value {
+    let records = explanation.records.iter().map(|explained| record(explained, turns));
     json!({
         "accepted": explanation.accepted,
         "form": explanation.form,
         "sequence": explanation.sequence,
-        "records": explanation.records.iter().map(record).collect::<Vec<Value>>(),
+        "records": records.collect::<Vec<Value>>(),
         "symbols": names(|symbol| input.names.symbol_name(symbol)),
         "states": names(|state| input.names.state_name(state)),
     })

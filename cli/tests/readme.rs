@@ -26,6 +26,20 @@ fn the_tree_of_a_memory_command() {
     assert!(README.contains(&indented(&first)));
 }
 
+/// The turns of the whole tree, by hand. The recorded command is a chain, and a step takes what is pending from the lowest state, by the lowest symbol.
+/// So the steps 1 and 2 take "M" from begin and the memory letter that it adds, 3 to 5 the first "0-9", its digit and its digits, 6 and 7 "T" and its
+/// letter, 8 to 10 the second "0-9", its digit and its digits, 11 the third "0-9", and 12 its digit, which follows the digit before it: that adds
+/// two-digits. From here on each step takes what the one before added: 13 adds the tone, 14 the setting, 15 the memory command.
+#[test]
+fn the_turns_of_a_memory_command() {
+    let tree = run(&["explain", "--tree", "--turns", "-", "memory"], RADIO_TEXT.as_bytes()).stdout;
+    let turns: Vec<&str> = tree.lines().skip(3).map(|line| line.rsplit(' ').next().unwrap()).collect();
+    // memory: memory-letter: "M"; stored-setting: digit: "0-9"; tone: tone-letter: "T"; two-digits: digit: "0-9"; digit: "0-9"
+    assert_eq!(turns, ["15", "1", "0", "14", "3", "0", "13", "6", "0", "12", "8", "0", "11", "0"]);
+    let first: String = tree.lines().skip(3).take(3).map(|line| format!("{line}\n")).collect();
+    assert!(README.contains(&indented(&first)));
+}
+
 #[test]
 fn the_rules_that_a_long_one_becomes() {
     let text = run(&["binarize", "--text"], MEMORY_TEXT.as_bytes()).stdout;

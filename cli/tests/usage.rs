@@ -97,7 +97,7 @@ fn completions_know_the_subcommands() {
     for shell in ["bash", "zsh", "fish"] {
         let ran = run(&["completions", shell], b"");
         assert_eq!(ran.status, Some(0));
-        for word in ["nightly", "baseline", "binarize"] {
+        for word in ["nightly", "baseline", "binarize", "turns"] {
             assert!(ran.stdout.contains(word), "{word} for {shell}");
         }
     }

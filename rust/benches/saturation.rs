@@ -65,7 +65,7 @@ fn row(what: &str, taken: Duration, baseline: Option<(&str, Duration)>) {
 struct Bytes {
     found: Advanced,
     table: Vec<u8>,
-    reasons: Vec<u16>,
+    reasons: Vec<u32>,
     to_the_end: Duration,
     accepted: bool,
     ask: Duration,
@@ -151,7 +151,7 @@ fn bench_bits(job: &[u8], bytes: &Bytes) {
 }
 
 /// The other calls, on a finished bit table and its reasons.
-fn bench_bits_calls(job: &[u8], bytes: &Bytes, bits: &mut [u8], reasons: &mut [u16]) {
+fn bench_bits_calls(job: &[u8], bytes: &Bytes, bits: &mut [u8], reasons: &mut [u32]) {
     let form = start_form(job);
     let (accepted, asked) = time(|| ask_bits(job, bits, &form).unwrap());
     assert_eq!(accepted, bytes.accepted, "bits and bytes answer differently");

@@ -29,7 +29,7 @@ fn refused(answer: &[u64]) -> Result<(), Refusal> {
 ///
 /// # Errors
 /// Refusals 10 (bit table, reasons) and 1 to 9; nothing is written then.
-pub fn start_bits(job: &[u8], bits: &mut [u8], reasons: &mut [u16]) -> Result<usize, Refusal> {
+pub fn start_bits(job: &[u8], bits: &mut [u8], reasons: &mut [u32]) -> Result<usize, Refusal> {
     let mut answer = [0u64; 3];
     // SAFETY: each pointer comes with its slice's length, the slices are disjoint, and `answer` has the three numbers that are written.
     unsafe {
@@ -63,7 +63,7 @@ pub fn start_bits(job: &[u8], bits: &mut [u8], reasons: &mut [u16]) -> Result<us
 ///
 /// # Errors
 /// Refusals 10 (bit table, reasons) and 1 to 9; nothing is written then.
-pub fn advance_bits(job: &[u8], bits: &mut [u8], reasons: &mut [u16], n: u64) -> Result<Advanced, Refusal> {
+pub fn advance_bits(job: &[u8], bits: &mut [u8], reasons: &mut [u32], n: u64) -> Result<Advanced, Refusal> {
     let mut answer = [0u64; 5];
     // SAFETY: as in `start_bits`; five numbers are written.
     unsafe {

@@ -69,7 +69,7 @@ fn refused(answer: &[u64]) -> Result<(), Refusal> {
 ///
 /// # Errors
 /// Refusals 10 (table, reasons) and 1 to 9; nothing is written then.
-pub fn start(job: &[u8], table: &mut [u8], reasons: &mut [u16]) -> Result<usize, Refusal> {
+pub fn start(job: &[u8], table: &mut [u8], reasons: &mut [u32]) -> Result<usize, Refusal> {
     let mut answer = [0u64; 3];
     // SAFETY: each pointer comes with its slice's length, the slices are disjoint, and `answer` has the three numbers that are written.
     unsafe {
@@ -99,7 +99,7 @@ pub fn start(job: &[u8], table: &mut [u8], reasons: &mut [u16]) -> Result<usize,
 ///
 /// # Errors
 /// Refusals 10 (table, reasons) and 1 to 9; nothing is written then.
-pub fn advance(job: &[u8], table: &mut [u8], reasons: &mut [u16], n: u64) -> Result<Advanced, Refusal> {
+pub fn advance(job: &[u8], table: &mut [u8], reasons: &mut [u32], n: u64) -> Result<Advanced, Refusal> {
     let mut answer = [0u64; 5];
     // SAFETY: as in `start`; five numbers are written.
     unsafe {
@@ -169,7 +169,7 @@ pub fn ask(job: &[u8], table: &[u8], form: &[u8]) -> Result<bool, Refusal> {
 pub fn explain(
     job: &[u8],
     table: &mut [u8],
-    reasons: &mut [u16],
+    reasons: &mut [u32],
     form: &[u8],
     listing: &mut [u8],
 ) -> Result<Explained, Refusal> {

@@ -42,6 +42,8 @@
 //! // Why the recorded command is one of the grammar's.
 //! let explanation = workspace.explain(&job, &[0]).unwrap();
 //! assert_eq!(explanation.records.last().unwrap().to_string(), "0 0 3 by 0 -> 1 2 at 1");
+//! // And when that was learned: ten transitions were done by then.
+//! assert_eq!(workspace.turn((0, 0, 3)), 10);
 //!
 //! // A refused call says what is wrong, and where.
 //! let refusal = workspace.report(&job[..39]).unwrap_err();
@@ -57,6 +59,7 @@
 
 mod bits;
 mod calls;
+mod entry;
 mod ffi;
 pub mod format;
 pub mod listing;
@@ -71,6 +74,7 @@ mod workspace;
 
 pub use bits::{advance_bits, ask_bits, done_count, start_bits};
 pub use calls::{advance, ask, binarize, explain, show_refused, start, verdicts, Advanced, Explained, Verdicts};
+pub use entry::{reason_of, turn_of};
 pub use refusal::{Buffer, Refusal};
 pub use saturation::{Finished, Started};
 pub use shuffle::shuffled;
@@ -97,7 +101,7 @@ pub const BIT_TABLE_BYTES: usize = 16_384;
 /// ```
 pub const HALF_BYTES: usize = 8_192;
 
-/// The reasons that are read and written.
+/// The reasons that are read and written, an entry of 32 bits each. [`reason_of`] and [`turn_of`] take an entry apart.
 ///
 /// ```
 /// assert_eq!(ropeclover::Workspace::new().reasons().len(), ropeclover::REASONS);

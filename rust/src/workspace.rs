@@ -1,7 +1,7 @@
 //! Owned memory for the library's calls, and types that say what it holds.
 use crate::format::start_symbol;
 use crate::listing::{Record, Transition};
-use crate::{explain, sequence, start, verdicts, Refusal, Started, Verdicts, CODES, REASONS, TABLE_BYTES};
+use crate::{explain, sequence, start, turn_of, verdicts, Refusal, Started, Verdicts, CODES, REASONS, TABLE_BYTES};
 use std::fmt;
 
 /// A table and reasons of the right lengths. [`start`](Workspace::start) gives a [`Started`], which becomes a
@@ -18,7 +18,7 @@ use std::fmt;
 #[derive(Clone, PartialEq, Eq)]
 pub struct Workspace {
     pub(crate) table: Vec<u8>,
-    pub(crate) reasons: Vec<u16>,
+    pub(crate) reasons: Vec<u32>,
 }
 
 /// What the report prints.
@@ -117,16 +117,33 @@ impl Workspace {
         &self.table
     }
 
-    /// The reasons, a number for each transition (q, A, r) of a variable at q × 1024 + A × 32 + r: 0 none, 65535 given, else 1 + 32 × rank +
-    /// middle state.
+    /// The reasons, an entry for each transition (q, A, r) of a variable at q × 1024 + A × 32 + r: its reason + 65536 × its turn.
+    /// [`reason_of`](crate::reason_of) and [`turn_of`] take an entry apart, and say what the two mean.
     ///
     /// ```
     /// let mut workspace = ropeclover::Workspace::new();
     /// workspace.start(b"S\0\0\0I\0\0\0T\0\x03\x01").unwrap();
     /// assert_eq!(workspace.reasons()[3 * 32 + 1], 65_535);
     /// ```
-    pub fn reasons(&self) -> &[u16] {
+    pub fn reasons(&self) -> &[u32] {
         &self.reasons
+    }
+
+    /// The turn of a transition: when it was learned, as [`turn_of`] says. It is 0 for a terminal's, which is there from the start if at all, and for
+    /// one that is not there.
+    ///
+    /// ```
+    /// let job = ropeclover::text::assemble("S 0\nP 0 32 33\nI 0\nF 2\nT 0 32 1\nT 1 33 2\n").unwrap();
+    /// let mut workspace = ropeclover::Workspace::new();
+    /// workspace.explain(&job, &[0]).unwrap();
+    /// // Two transitions were done when (0, 0, 2) was learned.
+    /// assert_eq!((workspace.turn((0, 0, 2)), workspace.turn((0, 32, 1)), workspace.turn((0, 0, 99))), (2, 0, 0));
+    /// ```
+    pub fn turn(&self, (from, symbol, to): Transition) -> u16 {
+        if from > 31 || symbol > 31 || to > 31 {
+            return 0;
+        }
+        turn_of(self.reasons[usize::from(from) * 1024 + usize::from(symbol) * 32 + usize::from(to)])
     }
 
     /// Starts a job: the memory holds the table and reasons that it starts from.

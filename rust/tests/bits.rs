@@ -1,9 +1,10 @@
 //! Bit tables on random jobs and memory: the library against the machine written apart, and against its own table of bytes.
 mod support;
 
-use ropeclover::{advance, advance_bits, ask, ask_bits, done_count, start, start_bits, Advanced};
+use ropeclover::{ask, ask_bits, done_count};
 use support::bits::{byte_says, has_done_bit, has_pending_bit, says, Says};
-use support::bits_run::{halves, reasons, Met, Run};
+use support::bits_run::{Met, Run};
+use support::both::Both;
 use support::jobs::{self, Pairs};
 use support::run::steps;
 use support::{seed, Random, ToldOnFailure};
@@ -34,43 +35,7 @@ fn random_lists_of_calls_on_terminals_in_pairs() {
     lists_of_calls("random_lists_of_calls_on_terminals_in_pairs", Pairs::Symbols);
 }
 
-/// A job on a table of bytes and on a bit table, each with its reasons.
-struct Both {
-    job: Vec<u8>,
-    pairs: Pairs,
-    table: Vec<u8>,
-    table_reasons: Vec<u16>,
-    bits: Vec<u8>,
-    bits_reasons: Vec<u16>,
-}
-
 impl Both {
-    /// A random job that start takes, on a bit table that holds anything and bytes that say the same of each place.
-    fn new(random: &mut Random, pairs: Pairs) -> Both {
-        let mut jobs = std::iter::repeat_with(|| jobs::accepted(random, pairs));
-        let job = jobs.find(|job| job.chunks(4).any(|record| record[0] == b'I')).unwrap();
-        let (bits, reasons) = (halves(random), reasons(random, 32_768));
-        let mut byte = |place| match says(&bits, place) {
-            Says::Absent => *random.pick(&[0, 4, 255]),
-            Says::Pending => 1,
-            Says::Done => *random.pick(&[2, 3]),
-        };
-        let table = (0..65_536).map(&mut byte).collect();
-        Both { job, pairs, table, table_reasons: reasons.clone(), bits, bits_reasons: reasons }
-    }
-
-    fn start(&mut self) {
-        let states = start(&self.job, &mut self.table, &mut self.table_reasons);
-        assert!(states.is_ok());
-        assert_eq!(start_bits(&self.job, &mut self.bits, &mut self.bits_reasons), states);
-    }
-
-    fn advance(&mut self, n: u64) -> Advanced {
-        let advanced = advance(&self.job, &mut self.table, &mut self.table_reasons, n).unwrap();
-        assert_eq!(advance_bits(&self.job, &mut self.bits, &mut self.bits_reasons, n), Ok(advanced));
-        advanced
-    }
-
     /// Compares what the two say of each place, the reasons, the count and the answers to some forms.
     fn compare(&self, random: &mut Random) {
         for place in 0..65_536 {
@@ -105,7 +70,7 @@ fn bits_and_bytes_from_start(test: &str, pairs: Pairs) {
     let mut made = 0;
     for _ in 0..300 {
         let _told = ToldOnFailure(format!("job from seed {}", random.seed()));
-        let mut both = Both::new(&mut random, pairs);
+        let mut both = Both::random(&mut random, pairs);
         both.start();
         both.compare(&mut random);
         made += both.advance_to_the_end(&mut random);
@@ -132,7 +97,7 @@ fn bits_and_bytes_agree_on_any_table() {
     for pairs in [Pairs::Variables, Pairs::Symbols] {
         for _ in 0..60 {
             let _told = ToldOnFailure(format!("table from seed {}", random.seed()));
-            let mut both = Both::new(&mut random, pairs);
+            let mut both = Both::random(&mut random, pairs);
             both.compare(&mut random);
             both.advance_to_the_end(&mut random);
         }

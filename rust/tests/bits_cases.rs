@@ -7,6 +7,9 @@ const REPORT: &str = "S 0\nU 0 32\nP 0 1 1\nP 1 0 1\nU 1 33\nI 0\nF 2\nT 0 32 1\
 /// Where the done half begins.
 const DONE: usize = 8_192;
 
+/// What a turn counts for in an entry of the reasons.
+const TURN: u32 = 65_536;
+
 /// A bit table of these bytes, all others 0.
 fn table(bytes: &[(usize, u8)]) -> Vec<u8> {
     let mut bits = vec![0; 16_384];
@@ -14,19 +17,21 @@ fn table(bytes: &[(usize, u8)]) -> Vec<u8> {
     bits
 }
 
-/// Reasons of these numbers, all others 0.
-fn reasons(numbers: &[(usize, u16)]) -> Vec<u16> {
+/// Reasons of these entries, all others 0.
+fn reasons(entries: &[(usize, u32)]) -> Vec<u32> {
     let mut reasons = vec![0; 32_768];
-    numbers.iter().for_each(|(at, number)| reasons[*at] = *number);
+    entries.iter().for_each(|(at, entry)| reasons[*at] = *entry);
     reasons
 }
 
 /// Makes at most n steps: finished, steps and meetings.
-fn advanced(job: &[u8], bits: &mut [u8], reasons: &mut [u16], n: u64) -> (bool, u64, u64) {
+fn advanced(job: &[u8], bits: &mut [u8], reasons: &mut [u32], n: u64) -> (bool, u64, u64) {
     let advanced = advance_bits(job, bits, reasons, n).unwrap();
     (advanced.finished, advanced.steps, advanced.meetings)
 }
 
+/// From a start the turn of what a step adds is that step's number, from 1: as many places are done then.
+///
 /// The places of the given transitions: (0, 32, 1) has 1025 = 8 · 128 + 1, (1, 33, 2) has 3106 = 8 · 388 + 2, (2, 32, 1) has 5121 = 8 · 640 + 1.
 #[test]
 fn the_report_byte_by_byte() {
@@ -39,7 +44,7 @@ fn the_report_byte_by_byte() {
     // (0, 32, 1) is taken; (0, 0, 1), of place 1, follows by the rule of rank 1.
     assert_eq!(advanced(&job, &mut bits, &mut found, 1), (false, 1, 0));
     assert!(bits == table(&[(0, 0x02), (388, 0x04), (640, 0x02), (DONE + 128, 0x02)]));
-    assert!(found == reasons(&[(1, 33)]));
+    assert!(found == reasons(&[(1, 33 + TURN)]));
 
     // (0, 0, 1) is taken, from which nothing follows yet.
     assert_eq!(advanced(&job, &mut bits, &mut found, 1), (false, 1, 0));
@@ -50,7 +55,7 @@ fn the_report_byte_by_byte() {
     assert_eq!(advanced(&job, &mut bits, &mut found, 2), (false, 2, 1));
     let done = [(DONE, 0x02), (DONE + 128, 0x02), (DONE + 260, 0x04), (DONE + 388, 0x04)];
     assert!(bits == table(&[&[(4, 0x04), (640, 0x02)], &done[..]].concat()));
-    assert!(found == reasons(&[(1, 33), (34, 66), (1058, 97)]));
+    assert!(found == reasons(&[(1, 33 + TURN), (34, 66 + 4 * TURN), (1058, 97 + 3 * TURN)]));
     assert_eq!(done_count(&bits), Ok(4));
     assert_eq!(ask_bits(&job, &bits, &[0, 33]), Ok(true));
     // (0, 1, 2) is pending.
@@ -64,9 +69,10 @@ fn the_report_byte_by_byte() {
     assert!(bits == table(&done));
     assert_eq!(done_count(&bits), Ok(11));
     assert_eq!(ask_bits(&job, &bits, &[0]), Ok(true));
-    let from_0 = [(1, 33), (2, 1 + 2), (34, 66)];
-    let from_1 = [(1026, 1 + 2), (1058, 97)];
-    let from_2 = [(2049, 33), (2050, 1 + 2), (2082, 66)];
+    // Step 6 takes (2, 32, 1) and adds (2, 0, 1), step 7 takes that and adds (2, 1, 2), and step 8 takes that and adds those of 0 to 2.
+    let from_0 = [(1, 33 + TURN), (2, 1 + 2 + 8 * TURN), (34, 66 + 4 * TURN)];
+    let from_1 = [(1026, 1 + 2 + 8 * TURN), (1058, 97 + 3 * TURN)];
+    let from_2 = [(2049, 33 + 6 * TURN), (2050, 1 + 2 + 8 * TURN), (2082, 66 + 7 * TURN)];
     assert!(found == reasons(&[&from_0[..], &from_1[..], &from_2[..]].concat()));
 
     assert_eq!(advanced(&job, &mut bits, &mut found, 5), (true, 0, 0));
@@ -108,7 +114,8 @@ fn both_bits() {
     assert_eq!(ask_bits(&job, &bits, &[32, 33]), Ok(false));
     assert_eq!(advanced(&job, &mut bits, &mut found, 1), (false, 1, 1));
     assert!(bits == table(&[(0, 0x04), (128, 0x02), (DONE + 128, 0x02), (DONE + 388, 0x04)]));
-    assert_eq!((found[2], found.iter().filter(|number| **number == 9).count()), (2, 32_767));
+    // Two places are done then, the one with both bits among them.
+    assert_eq!((found[2], found.iter().filter(|number| **number == 9).count()), (2 + 2 * TURN, 32_767));
 
     // (0, 32, 1) is only pending: what follows from it, (0, 1, 1) of place 33 = 8 · 4 + 1 and (0, 0, 2), has both bits and stays, reasons too.
     let kept = [(0, 0x04), (4, 0x02), (DONE, 0x04), (DONE + 4, 0x02), (DONE + 388, 0x04)];
@@ -135,8 +142,8 @@ fn tables_full_of_one_byte() {
 }
 
 /// Memory of these lengths that no call would leave as it is.
-fn lent(bytes: usize, numbers: usize) -> (Vec<u8>, Vec<u16>) {
-    ((0..bytes).map(|at| (at % 251) as u8).collect(), (0..numbers).map(|at| at as u16 ^ 0x5555).collect())
+fn lent(bytes: usize, numbers: usize) -> (Vec<u8>, Vec<u32>) {
+    ((0..bytes).map(|at| (at % 251) as u8).collect(), (0..numbers).map(|at| at as u32 ^ 0x5555_5555).collect())
 }
 
 /// Start and advance on memory of these lengths are refused by this number and place, and leave it as it was.

@@ -17,7 +17,7 @@ const LISTING: [[u8; 8]; 9] = [
     [0, 0, 2, b'P', 1, 1, 2, 0],
 ];
 
-fn lent() -> (Vec<u8>, Vec<u16>) {
+fn lent() -> (Vec<u8>, Vec<u32>) {
     (vec![0; 65_536], vec![0; 32_768])
 }
 

@@ -46,9 +46,9 @@ fn the_report_step_by_step() {
     }
     let more = started.advance(u64::MAX);
     assert_eq!((more.finished, more.steps, more.meetings), (true, 0, 0));
-    // Reasons: given ones have none in this table of variables; (0, 1, 2) came by rule 2 (P 1 0 1) with middle 1.
-    assert_eq!(workspace.reasons()[32 + 2], 1 + 32 * 2 + 1);
-    assert_eq!(workspace.reasons()[2], 1 + 2);
+    // Reasons: given ones have none in this table of variables; (0, 1, 2) came by rule 2 (P 1 0 1) with middle 1 in step 4, (0, 0, 2) in step 8.
+    assert_eq!(workspace.reasons()[32 + 2], 1 + 32 * 2 + 1 + 65_536 * 4);
+    assert_eq!(workspace.reasons()[2], 1 + 2 + 65_536 * 8);
 }
 
 /// The number of states of a job whose records stand in this order, and of the same in the opposite order.
@@ -104,14 +104,14 @@ fn tables_full_of_one_byte() {
         let after = if byte == 1 { 2 } else { byte };
         assert!(table.iter().all(|b| *b == after) && reasons.iter().all(|r| *r == 5));
     }
-    // A pending place beside absent bytes 255: its consequent becomes pending, with its reason.
+    // A pending place beside absent bytes 255: its consequent becomes pending, with its reason, and one place is done then.
     let job = assemble("S 0\nU 0 32\nI 0\n").unwrap();
     let mut table = vec![255; 65_536];
     let mut reasons = vec![5; 32_768];
     table[32 * 32 + 7] = 1;
     let advanced = advance(&job, &mut table, &mut reasons, 1).unwrap();
     assert_eq!((advanced.finished, advanced.steps), (false, 1));
-    assert_eq!((table[32 * 32 + 7], table[7], reasons[7], table[8]), (2, 1, 1, 255));
+    assert_eq!((table[32 * 32 + 7], table[7], reasons[7], table[8]), (2, 1, 1 + 65_536, 255));
 }
 
 #[test]

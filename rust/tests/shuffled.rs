@@ -8,7 +8,7 @@ use support::{seed, Random};
 #[derive(Debug, PartialEq)]
 struct Answers(Vec<String>);
 
-fn run(job: &[u8], pairs: Pairs, mut random: Random, lengths: (usize, usize)) -> (Answers, Vec<u8>, Vec<u16>) {
+fn run(job: &[u8], pairs: Pairs, mut random: Random, lengths: (usize, usize)) -> (Answers, Vec<u8>, Vec<u32>) {
     let mut table = vec![1; lengths.0];
     let mut reason = vec![77; lengths.1];
     let mut answers = vec![];

@@ -94,15 +94,16 @@ const WORKED: [Worked; 6] = [CHAIN, TWICE, LOOP, SECOND_FIRST, BOTH_WAYS, EMPTY_
 /// Table and reasons, written by hand.
 struct Memory {
     table: Vec<u8>,
-    reasons: Vec<u16>,
+    reasons: Vec<u32>,
 }
 
 impl Memory {
-    fn add(&mut self, added: &[Reasoned]) {
+    /// Adds what is pending at a turn. From a start that is the number of steps made, each of which makes one place done.
+    fn add(&mut self, added: &[Reasoned], turn: usize) {
         for ((q, x, r), reason) in added {
             self.table[place((*q, *x, *r))] = 1;
             if *x < 32 {
-                self.reasons[q * 1024 + x * 32 + r] = *reason;
+                self.reasons[q * 1024 + x * 32 + r] = u32::from(*reason) + 65_536 * turn as u32;
             }
         }
     }
@@ -116,7 +117,7 @@ fn step_by_step() {
         let mut workspace = Workspace::new();
         let mut started = workspace.start(&job).unwrap();
         let mut expected = Memory { table: vec![0; 65_536], reasons: vec![0; 32_768] };
-        expected.add(worked.begun);
+        expected.add(worked.begun, 0);
         for (number, (taken, rise, added)) in worked.steps.iter().enumerate() {
             assert!(started.memory().table() == expected.table, "the table before step {number}");
             assert!(started.memory().reasons() == expected.reasons, "the reasons before step {number}");
@@ -124,7 +125,7 @@ fn step_by_step() {
             assert_eq!((advanced.steps, advanced.meetings), (1, *rise), "step {number}");
             assert_eq!(advanced.finished, number + 1 == worked.steps.len(), "step {number}");
             expected.table[place(*taken)] = 2;
-            expected.add(added);
+            expected.add(added, number + 1);
         }
         assert!(workspace.table() == expected.table && workspace.reasons() == expected.reasons, "the end");
         let report = workspace.report(&job).unwrap();
@@ -173,7 +174,7 @@ fn terminals_that_no_record_gave() {
     table[place((6, 33, 9))] = 1;
     let advanced = advance(&job, &mut table, &mut reasons, 1).unwrap();
     assert_eq!((advanced.finished, advanced.steps, advanced.meetings), (false, 1, 1));
-    assert_eq!((table[place((5, 0, 9))], reasons[5 * 1024 + 9]), (1, 1 + 6));
+    assert_eq!((table[place((5, 0, 9))], reasons[5 * 1024 + 9]), (1, 1 + 6 + 65_536 * 2));
     assert_eq!((table[place((5, 32, 6))], table[place((6, 33, 9))], table[place((5, 0, 6))]), (3, 2, 255));
     assert_eq!(reasons.iter().filter(|reason| **reason != 5).count(), 1);
     // Where all is pending, each pair of terminals meets at every three states by the end.

@@ -22,7 +22,53 @@ static const uint8_t job[] = {
 };
 
 static uint8_t table[ROPECLOVER_TABLE_BYTES];
-static uint16_t reasons[ROPECLOVER_REASONS];
+static uint32_t reasons[ROPECLOVER_REASONS];
+
+/* Whether a transition of a variable has this reason and this turn. */
+static void learned(const char *what, const uint8_t transition[3], uint64_t reason, uint64_t turn)
+{
+    uint32_t entry = reasons[transition[0] * 1024 + transition[1] * 32 + transition[2]];
+    same(what, ROPECLOVER_REASON(entry), reason);
+    same(what, ROPECLOVER_TURN(entry), turn);
+}
+
+/* The transitions of variables at the end of the job, each with its reason and the step that adds it: after step n of a start n are done. Ranks:
+ * 0 -> 1 1 is 0, 0 -> 32 is 1, 1 -> 0 1 is 2, 1 -> 33 is 3. */
+static void has_turns(const char *what)
+{
+    static const struct {
+        uint8_t transition[3];
+        uint64_t reason, turn;
+    } entries[] = {
+        {{0, 0, 1}, 1 + 32, 1},         /* step 1 takes (0, 32, 1) */
+        {{1, 1, 2}, 1 + 32 * 3, 3},     /* 2 takes (0, 0, 1), to which nothing adjoins yet, and 3 takes (1, 33, 2) */
+        {{0, 1, 2}, 1 + 32 * 2 + 1, 4}, /* 4 takes (1, 1, 2), behind (0, 0, 1) */
+        {{2, 0, 1}, 1 + 32, 6},         /* 5 takes (0, 1, 2), to which nothing adjoins yet, and 6 takes (2, 32, 1) */
+        {{2, 1, 2}, 1 + 32 * 2 + 1, 7}, /* 7 takes (2, 0, 1), before (1, 1, 2) */
+        {{0, 0, 2}, 1 + 2, 8},          /* 8 takes (2, 1, 2), behind (0, 1, 2), (1, 1, 2) and itself */
+        {{1, 0, 2}, 1 + 2, 8},
+        {{2, 0, 2}, 1 + 2, 8},
+    };
+    size_t count = sizeof entries / sizeof entries[0], written = 0;
+    for (size_t i = 0; i < count; i++) {
+        learned(what, entries[i].transition, entries[i].reason, entries[i].turn);
+    }
+    for (size_t i = 0; i < ROPECLOVER_REASONS; i++) {
+        written += reasons[i] != 0;
+    }
+    same(what, written, count);
+}
+
+/* The macros take apart whatever 32 bits there are. */
+static void takes_entries_apart(void)
+{
+    same("no reason", ROPECLOVER_REASON(0), 0);
+    same("no turn", ROPECLOVER_TURN(0), 0);
+    same("the largest reason", ROPECLOVER_REASON(UINT32_MAX), 65535);
+    same("the largest turn", ROPECLOVER_TURN(UINT32_MAX), 65535);
+    same("a reason of a sum", ROPECLOVER_REASON(65536u * 7 + 33), 33);
+    same("a turn of a sum", ROPECLOVER_TURN(65536u * 7 + 33), 7);
+}
 
 static void saturates(void)
 {
@@ -38,9 +84,41 @@ static void saturates(void)
     same("steps to the end", answer[3], 6);
     same("finished at the end", answer[2], 1);
     same("meetings in all", meetings + answer[4], 8);
+    has_turns("turns");
     const uint8_t form[] = {0};
     ropeclover_ask(job, sizeof job, table, sizeof table, form, 1, answer);
     same("accepted", answer[2], 1);
+}
+
+/* S -> a | A A with A given and A -> empty, of rank 2: what a start writes has turn 0, whatever stood there. */
+static void starts_at_turn_0(void)
+{
+    static const uint8_t begun[] = {
+        'S', 0, 0, 0, 'U', 0, 32, 0, 'P', 0, 1, 1, 'E', 1, 0, 0, 'I', 0, 0, 0, 'T', 0, 1, 1,
+    };
+    uint64_t answer[3];
+    memset(reasons, 0xff, sizeof reasons);
+    ropeclover_start(begun, sizeof begun, table, sizeof table, reasons, ROPECLOVER_REASONS, answer);
+    same("turn 0: states", answer[2], 2);
+    learned("turn 0: given", (const uint8_t[]){0, 1, 1}, 65535, 0);
+    learned("turn 0: by A -> empty", (const uint8_t[]){1, 1, 1}, 1 + 32 * 2, 0);
+    learned("turn 0: not there", (const uint8_t[]){0, 0, 1}, 0, 0);
+}
+
+/* All places are done but a pending one and an absent one, which comes in at the largest turn; then all are. */
+static void has_a_largest_turn(void)
+{
+    uint64_t answer[5];
+    memset(table, ROPECLOVER_DONE, sizeof table);
+    memset(reasons, 0x5a, sizeof reasons);
+    /* (0, 32, 1) leads to (0, 0, 1) by 0 -> 32, of rank 1. */
+    table[32 * 32 + 1] = ROPECLOVER_PENDING;
+    table[1] = ROPECLOVER_ABSENT;
+    for (uint64_t steps = 1; steps <= 2; steps++) {
+        ropeclover_advance(job, sizeof job, table, sizeof table, reasons, ROPECLOVER_REASONS, 1, answer);
+        same("largest turn: finished", answer[2], steps == 2);
+        learned("largest turn", (const uint8_t[]){0, 0, 1}, 1 + 32, 65535);
+    }
 }
 
 enum { DONE = ROPECLOVER_HALF_BYTES, PAST = 16 };
@@ -104,15 +182,14 @@ static void saturates_bits(void)
     ropeclover_advance_bits(job, sizeof job, bits, sizeof bits, reasons, ROPECLOVER_REASONS, 1, answer);
     answers("bits: one step", answer, (const uint64_t[]){0, 0, 0, 1, 0}, 5);
     has_bits("bits: after one step", after_one, sizeof after_one / sizeof after_one[0]);
-    /* By 0 -> 32, of rank 1. */
-    same("bits: a reason", reasons[1], 1 + 32);
+    /* By 0 -> 32, of rank 1, when one transition is done. */
+    learned("bits: a reason", (const uint8_t[]){0, 0, 1}, 1 + 32, 1);
     ropeclover_ask_bits(job, sizeof job, bits, sizeof bits, form, 1, answer);
     answers("bits: not accepted yet", answer, (const uint64_t[]){0, 0, 0}, 3);
     ropeclover_advance_bits(job, sizeof job, bits, sizeof bits, reasons, ROPECLOVER_REASONS, UINT64_MAX, answer);
     answers("bits: to the end", answer, (const uint64_t[]){0, 0, 1, 10, 8}, 5);
     has_bits("bits: finished", finished, sizeof finished / sizeof finished[0]);
-    /* (0, 0, 2) by 0 -> 1 1, of rank 0, with the middle 2. */
-    same("bits: the last reason", reasons[2], 1 + 2);
+    has_turns("bits: turns");
     ropeclover_ask_bits(job, sizeof job, bits, sizeof bits, form, 1, answer);
     answers("bits: accepted", answer, (const uint64_t[]){0, 0, 1}, 3);
     ropeclover_done_count(bits, sizeof bits, answer);
@@ -152,7 +229,7 @@ static void refuses_bits(void)
         {ROPECLOVER_BIT_TABLE_BYTES, ROPECLOVER_REASONS, 20, ROPECLOVER_NO_INITIAL, 5},
     };
     static uint8_t bits_before[sizeof bits];
-    static uint16_t reasons_before[ROPECLOVER_REASONS];
+    static uint32_t reasons_before[ROPECLOVER_REASONS];
     memset(bits, 0x5a, sizeof bits);
     memset(reasons, 0x5a, sizeof reasons);
     memcpy(bits_before, bits, sizeof bits);
@@ -200,6 +277,7 @@ static void explains(void)
     const uint8_t expected[] = {0, 32, 1, 'G', 0, 0, 0, 0, 1, 33, 2, 'G', 0, 0, 0, 0};
     memset(listing, 7, sizeof listing);
     ropeclover_explain(job, sizeof job, table, sizeof table, reasons, ROPECLOVER_REASONS, form, 2, listing, sizeof listing, answer);
+    has_turns("explained turns");
     same("explained", answer[2], 1);
     same("records", answer[3], 2);
     same("listing", (uint64_t)memcmp(listing, expected, sizeof expected), 0);
@@ -229,9 +307,9 @@ static void takes_terminals_in_pairs(void)
     same("pairs: finished", answer[2], 1);
     same("pairs: steps", answer[3], 5);
     same("pairs: meetings", answer[4], 2);
-    /* 0 -> 32 33 has rank 1 and meets at 2, 0 -> 32 0 has rank 0 and meets at 1. */
-    same("pairs: a reason", reasons[1 * 1024 + 3], 1 + 32 + 2);
-    same("pairs: another reason", reasons[3], 1 + 1);
+    /* 0 -> 32 33 has rank 1 and meets at 2 once all three given are done, 0 -> 32 0 has rank 0 and meets at 1 in the next step. */
+    learned("pairs: a reason", (const uint8_t[]){1, 0, 3}, 1 + 32 + 2, 3);
+    learned("pairs: another reason", (const uint8_t[]){0, 0, 3}, 1 + 1, 4);
     ropeclover_ask(pairs, sizeof pairs, table, sizeof table, form, 2, answer);
     same("pairs: accepted", answer[2], 1);
     memset(listing, 7, sizeof listing);
@@ -444,7 +522,10 @@ static void has_limits_of_long_bodies(void)
 
 int main(void)
 {
+    takes_entries_apart();
     saturates();
+    starts_at_turn_0();
+    has_a_largest_turn();
     saturates_bits();
     keeps_both_bits();
     refuses_bits();

@@ -3,6 +3,7 @@ use super::refused;
 use crate::args::{Explain, Format};
 use crate::failure::Failure;
 use crate::input::{self, Input};
+use crate::print::turns::Turns;
 use crate::{form, json, output, print, quote};
 use ropeclover::format::start_symbol;
 use ropeclover::Workspace;
@@ -34,12 +35,13 @@ pub fn explain(options: &Explain) -> Result<(), Failure> {
     let mut input = input::read(options.file.as_deref()).map_err(failed)?;
     let form = form(options, &input)?;
     input.form = form.iter().map(|symbol| input.names.symbol(*symbol).into_owned()).collect();
-    let explanation = Workspace::new().explain(&input.job, &form).map_err(refused(&input, options.format))?;
-    let names = &input.names;
+    let mut memory = Workspace::new();
+    let explanation = memory.explain(&input.job, &form).map_err(refused(&input, options.format))?;
+    let (names, turns) = (&input.names, Turns::new(&memory, options.turns));
     output::write(|output| match options.format {
-        Format::Json => json::write(output, &json::explanation(&explanation, &input)),
-        Format::Text if options.tree => print::tree::write(output, &explanation, names),
-        Format::Text if options.dot => print::graph::write(output, &explanation, names),
-        Format::Text => print::listing::write(output, &explanation, names),
+        Format::Json => json::write(output, &json::explanation(&explanation, &input, turns)),
+        Format::Text if options.tree => print::tree::write(output, &explanation, names, turns),
+        Format::Text if options.dot => print::graph::write(output, &explanation, names, turns),
+        Format::Text => print::listing::write(output, &explanation, names, turns),
     })
 }

@@ -3,7 +3,7 @@ use super::difference::{alike, all_alike, Difference};
 use crate::output::yes_no;
 use crate::print::listing;
 use ropeclover::text::Names;
-use ropeclover::{shuffled, Explanation, Refusal, Report, Started, Workspace, CODES};
+use ropeclover::{reason_of, shuffled, turn_of, Explanation, Refusal, Report, Started, Workspace, CODES};
 
 /// How the runs are made.
 pub struct Pace<'a> {
@@ -61,7 +61,9 @@ fn same_memory(plain: &Workspace, other: &Workspace) -> Result<(), Difference> {
     let transition = |at: usize| format!("table byte of ({}, {}, {})", at / 2048, at / 32 % 64, at % 32);
     all_alike(plain.table(), other.table(), transition, u8::to_string)?;
     let reason = |at: usize| format!("reason of ({}, {}, {})", at / 1024, at / 32 % 32, at % 32);
-    all_alike(plain.reasons(), other.reasons(), reason, u16::to_string)
+    all_alike(plain.reasons(), other.reasons(), reason, |entry| {
+        format!("{} at turn {}", reason_of(*entry), turn_of(*entry))
+    })
 }
 
 /// Advances both runs to the end, comparing after each advance.
@@ -145,4 +147,35 @@ pub fn told(checked: &Checked, names: &Names) -> String {
         lines.push_str(&format!("form {form}: accepted {}, records {records}\n", yes_no(*accepted)));
     }
     lines
+}
+
+#[cfg(test)]
+mod tests {
+    use super::same_memory;
+    use ropeclover::{text::assemble, Workspace};
+
+    /// The memory after a text's job is run to the end.
+    fn finished(text: &str) -> Workspace {
+        let (job, mut memory) = (assemble(text).unwrap(), Workspace::new());
+        memory.start(&job).unwrap().finish();
+        memory
+    }
+
+    fn told(plain: &str, shuffled: &str) -> Option<String> {
+        same_memory(&finished(plain), &finished(shuffled)).err().map(|difference| difference.to_string())
+    }
+
+    /// Jobs that lead to the same table. In the second, (0, 0, 1) is given. In the third, (0, 1, 0) is there from the start: step 1 takes it, and step 2
+    /// takes (0, 32, 1) and adds (0, 0, 1), which step 1 does in the last.
+    #[test]
+    fn a_differing_reason_or_turn_is_told() {
+        let rest = "S 0\nU 0 32\nI 0\nT 0 32 1\n";
+        let given = format!("{rest}T 0 0 1\n");
+        assert_eq!(told(rest, rest), None);
+        let expected = "reason of (0, 0, 1), 1 at turn 1 plain and 65535 at turn 0 shuffled";
+        assert_eq!(told(rest, &given).as_deref(), Some(expected));
+        let (first, last) = (format!("{rest}T 1 33 0\nT 0 1 0\n"), format!("{rest}T 1 33 0\nP 1 0 33\n"));
+        let expected = "reason of (0, 0, 1), 1 at turn 2 plain and 1 at turn 1 shuffled";
+        assert_eq!(told(&first, &last).as_deref(), Some(expected));
+    }
 }

@@ -1,5 +1,7 @@
 //! An explanation's first lines, and its listing.
+use super::turns::Turns;
 use crate::output::yes_no;
+use ropeclover::listing::Record;
 use ropeclover::text::Names;
 use ropeclover::Explanation;
 use std::io::{self, Write};
@@ -27,9 +29,14 @@ pub fn write_head(output: &mut dyn Write, explanation: &Explanation, names: &Nam
     Ok(())
 }
 
+/// A record's line.
+pub fn line(record: &Record, names: &Names, turns: Turns<'_>) -> String {
+    format!("{}{}", record.named(names), turns.after(' ', record.transition))
+}
+
 /// A line for each record, after those of its premises.
-pub fn write(output: &mut dyn Write, explanation: &Explanation, names: &Names) -> io::Result<()> {
+pub fn write(output: &mut dyn Write, explanation: &Explanation, names: &Names, turns: Turns<'_>) -> io::Result<()> {
     write_head(output, explanation, names)?;
     writeln!(output, "records {}", explanation.records.len())?;
-    explanation.records.iter().try_for_each(|record| writeln!(output, "{}", record.named(names)))
+    explanation.records.iter().try_for_each(|record| writeln!(output, "{}", line(record, names, turns)))
 }

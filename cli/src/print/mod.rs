@@ -4,3 +4,4 @@ pub mod graph;
 pub mod listing;
 pub mod report;
 pub mod tree;
+pub mod turns;

@@ -1,5 +1,6 @@
 //! An explanation as indented trees, one for each step of the form.
-use super::listing::write_head;
+use super::listing::{line, write_head};
+use super::turns::Turns;
 use ropeclover::listing::{Record, Transition};
 use ropeclover::text::Names;
 use ropeclover::Explanation;
@@ -18,7 +19,7 @@ fn margin(depth: usize) -> String {
 }
 
 /// Writes the tree of each step. A transition's premises stand under it where it comes first, and are not repeated.
-pub fn write(output: &mut dyn Write, explanation: &Explanation, names: &Names) -> io::Result<()> {
+pub fn write(output: &mut dyn Write, explanation: &Explanation, names: &Names, turns: Turns<'_>) -> io::Result<()> {
     write_head(output, explanation, names)?;
     let records: HashMap<Transition, &Record> = explanation.records.iter().map(|r| (r.transition, r)).collect();
     let mut shown: HashSet<Transition> = HashSet::new();
@@ -29,7 +30,7 @@ pub fn write(output: &mut dyn Write, explanation: &Explanation, names: &Names) -
         let premises = record.premises();
         let repeated = !premises.is_empty() && !shown.insert(transition);
         let note = if repeated { " (shown above)" } else { "" };
-        writeln!(output, "{}{}{note}", margin(depth), record.named(names))?;
+        writeln!(output, "{}{}{note}", margin(depth), line(record, names, turns))?;
         if !repeated {
             rest.extend(premises.into_iter().rev().map(|premise| (depth + 1, premise)));
         }

@@ -1,12 +1,15 @@
 -- The byte table that says what a bit table says: its length, its bytes, and what becomes of it where the bit table
 -- says something else of one place, or of none. Assumes nothing.
-use Rattle.grammar.proofs.Basics.{_≡_, refl, _∙_, sym, ap, List, ℕ, _<_, arith, eqb, length, getD, set, replicate}
-use Rattle.grammar.proofs.Basics.{length-set, getD-set-other, getD-set-same, ext-getD, eqb-true, eqb-false, cases}
+use Rattle.grammar.proofs.Basics.{_≡_, refl, _∙_, sym, ap, true, false, Bool, List, ℕ, _<_, arith, eqb, length, getD}
+use Rattle.grammar.proofs.Basics.{set, replicate, length-set, getD-set-other, getD-set-same, ext-getD, eqb-true}
+use Rattle.grammar.proofs.Basics.{eqb-false, cases}
 use lib.ListN.{length-replicate, getD-replicate}
+use Rattle.grammar.proofs.Counting.{count-cong}
 use Rattle.saturation.specs.Table.{tableSize, Status, byteStatus, saysAbsent, saysPending, saysDone, statuses}
-use Rattle.saturation.specs.Table.{isAbsent, isPending, isDone, each}
+use Rattle.saturation.specs.Table.{doneCount, isAbsent, isPending, isDone, each}
 use Rattle.saturation.proofs.Tables.Each.{length-each, getD-each-0}
-use Rattle.bits.specs.BitTable.{bitStatuses, statusByte, bytesOf}
+use Rattle.bits.specs.BitTable.{pendingHalf, doneHalf, bitAt, bitStatus, bitStatuses, doneBits, statusByte}
+use Rattle.bits.specs.BitTable.{bytesOf}
 
 -- a list made of n zeros, number by number
 module _ (f : ℕ → ℕ → ℕ) (n : ℕ) where
@@ -48,6 +51,19 @@ module _ (bits : List ℕ) (p : ℕ) (h : p < tableSize) where
 
   pub byte-done : isDone (getD (bytesOf bits) p 0) ≡ saysDone (bitStatuses bits p)
   byte-done = ap saysDone says
+
+-- its done places are the ones of the done half
+pub bytes-done-count : (bits : List ℕ) → doneBits bits ≡ doneCount (statuses (bytesOf bits))
+unfolding doneBits doneCount bitStatuses
+bytes-done-count bits =
+    count-cong (bitAt bits doneHalf) _ tableSize
+    (λ p h. sym (ap saysDone (bytes-say bits p h) ∙ done-says (bitAt bits pendingHalf p) (bitAt bits doneHalf p)))
+  where
+    done-says : (pending done : Bool) → saysDone (bitStatus pending done) ≡ done
+    done-says true true = refl
+    done-says false true = refl
+    done-says true false = refl
+    done-says false false = refl
 
 module _ (bits bits' : List ℕ) where
   -- all such tables have one length

@@ -11,7 +11,7 @@ ghost use Rattle.bits.specs.BitTable.{bitsSize, doneBits};
 ghost use Rattle.bits.specs.Operations.{doneCountOf};
 
 // The ones of the done half, word by word.
-fn count_ones(bits: &[u8]) -> u64
+pub fn count_ones(bits: &[u8]) -> u64
     requires long { ⌜ bitsSize ≤ length (now bits) ⌝ }
     ensures counted { λ n. ⌜ n ≡ doneBits (now (bits .entry)) ⌝ }
 {

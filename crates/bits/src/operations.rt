@@ -12,7 +12,7 @@ ghost use Rattle.saturation.specs.Table.{lentOf};
 ghost use Rattle.bits.specs.Operations.{bitsCheck, startBitsOf, advanceBitsOf};
 
 // The checks of start and advance: short buffers, then the job's.
-fn bits_check(job: &[u8], bits: &[u8], reasons: &[u16]) -> Checked
+fn bits_check(job: &[u8], bits: &[u8], reasons: &[u32]) -> Checked
     ensures checked { λ c. ⌜ c
         ≡ bitsCheck (now (job .entry)) (lentOf (now (bits .entry)) (now (reasons .entry))) ⌝ }
 {
@@ -32,7 +32,7 @@ fn bits_check(job: &[u8], bits: &[u8], reasons: &[u16]) -> Checked
 }
 
 // Writes the bit table and the reasons that a job starts from, and answers its number of states.
-pub fn start(job: &[u8], bits: &mut [u8], reasons: &mut [u16]) -> Started
+pub fn start(job: &[u8], bits: &mut [u8], reasons: &mut [u32]) -> Started
     ensures outcome { λ r. ⌜
         startLeaves r (lentOf (now (bits .exit)) (now (reasons .exit)))
         ≡ startBitsOf (now (job .entry)) (lentOf (now (bits .entry)) (now (reasons .entry)))
@@ -55,7 +55,7 @@ pub fn start(job: &[u8], bits: &mut [u8], reasons: &mut [u16]) -> Started
 }
 
 // Makes at most n steps on a bit table, whatever it holds.
-pub fn advance(job: &[u8], bits: &mut [u8], reasons: &mut [u16], n: u64) -> Advanced
+pub fn advance(job: &[u8], bits: &mut [u8], reasons: &mut [u32], n: u64) -> Advanced
     ensures outcome { λ r. ⌜
         advanceLeaves r (lentOf (now (bits .exit)) (now (reasons .exit)))
         ≡ advanceBitsOf (now (job .entry)) (lentOf (now (bits .entry)) (now (reasons .entry))) n

@@ -124,20 +124,20 @@ pub fn make_done(bits: &mut [u8], place: usize)
     set_bit(bits, DONE_HALF, place);
 }
 
-// A variable's transition becomes pending with a reason, if it is absent. Answers whether it was.
+// A variable's transition becomes pending with its entry among the reasons, if it is absent. Answers whether it was.
 pub fn offer(
     bits: &mut [u8],
-    reasons: &mut [u16],
+    reasons: &mut [u32],
     place: usize,
     reason_place: usize,
-    reason: u16,
+    entry: u32,
 ) -> bool
     requires long { ⌜ (bitsSize ≤ length (now bits)) × (reasonsSize ≤ length (now reasons)) ⌝ }
     requires variable { ⌜ VariablePlace place ⌝ }
     requires beside { ⌜ «reason_place» ≡ reasonPlaceOf place ⌝ }
     ensures absent { λ r. ⌜ r ≡ isAbsent (getD (bytesOf (now (bits .entry))) place 0) ⌝ }
     ensures written { λ r. ⌜ lentOf (bytesOf (now (bits .exit))) (now (reasons .exit))
-        ≡ addOffer (offerAt place reason) (lentOf (bytesOf (now (bits .entry))) (now (reasons .entry))) ⌝ }
+        ≡ addOffer (offerAt place entry) (lentOf (bytesOf (now (bits .entry))) (now (reasons .entry))) ⌝ }
     ensures kept { λ _. ⌜ Kept (now (bits .entry)) (now (bits .exit)) ⌝ }
 {
     if has_bit(bits, DONE_HALF, place) {
@@ -147,6 +147,6 @@ pub fn offer(
         return false;
     }
     make_pending(bits, place);
-    reasons[reason_place] = reason;
+    reasons[reason_place] = entry;
     true
 }

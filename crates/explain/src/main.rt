@@ -100,7 +100,7 @@ fn read_form(form: &mut [u8], count: usize) -> bool
 // Prints the explanation of a form, by way of a buffer for the text.
 fn print_explanation(job: &[u8], form: &[u8], out: &mut [u8]) {
     let mut table = [0u8; job::TABLE_BYTES];
-    let mut reasons = [0u16; job::REASON_NUMBERS];
+    let mut reasons = [0u32; job::REASON_NUMBERS];
     let mut listing = [0u8; LISTING_BYTES];
     let explained = forms::explain::explain(job, &mut table, &mut reasons, form, &mut listing);
     let written = text::operations::explain_text(

@@ -1,19 +1,20 @@
 -- Explain on a finished table works on the first part of what is lent alone and keeps the rest; and where the reasons
--- fit, it leaves done what is done. Assumes nothing.
-use Rattle.grammar.proofs.Basics.{_≡_, refl, _∙_, sym, ap, true, false, Bool, List, ℕ, _<_, _≤_, ltb, length, getD}
+-- fit, what the table says is what it said. Assumes nothing.
+use Rattle.grammar.proofs.Basics.{_≡_, refl, _∙_, sym, ap, true, false, Bool, List, ℕ, _<_, _≤_, ltb, length}
 use Rattle.grammar.proofs.Basics.{take, cases}
 use Rattle.grammar.specs.Rule.{Rule}
 use Rattle.job.specs.Job.{Job}
 use Rattle.job.specs.Theorems.InRange.{InRange}
-use Rattle.saturation.specs.Table.{Lent, lentOf, KeepsRest, tableSize, reasonsSize, isDone, statuses, doneAt}
+use Rattle.saturation.specs.Table.{Lent, lentOf, KeepsRest, tableSize, reasonsSize, statuses, doneAt}
 use Rattle.saturation.specs.Theorems.Reasons.{ReasonsFit}
 use Rattle.saturation.proofs.Steps.FirstPart.{first}
 use Rattle.forms.specs.Acceptance.{SymbolsFit, route}
 use Rattle.forms.specs.Listing.{Listed, listAll, recordsAt}
-use Rattle.forms.specs.Operations.{acceptsOn, ExplainOutcome, explainListed, listedFor, explainFinished}
+use Rattle.forms.specs.Operations.{acceptsOn, ExplainOutcome, explainLeaves, explainListed, listedFor}
+use Rattle.forms.specs.Operations.{explainFinished}
 use Rattle.forms.proofs.Routes.{route-done}
 use Rattle.forms.proofs.Runs.{visits-run}
-use Rattle.forms.proofs.RunLaws.{done-same}
+use Rattle.forms.proofs.RunLaws.{status-same}
 use Rattle.forms.proofs.Grounding.{grounded-by-reasons}
 use Rattle.forms.proofs.ListedPlaces.{Within, listed-length, listed-rest, listed-within}
 use Rattle.forms.proofs.FirstListing.{firstListed, can-finish-first, route-in-first, route-within}
@@ -66,34 +67,52 @@ module _ (J : Job) (range : InRange J) (initial : J .initial < 32) (form : List 
           rest-reasons = refl;
         }
 
-    for-done : ReasonsFit J (statuses (m .table)) (m .reasons) → tableSize ≤ length (m .table) → (k : ℕ) →
-        isDone (getD (listedFor J m form .table) k 0) ≡ isDone (getD (m .table) k 0)
-    unfolding listedFor listAll
-    for-done reasons long =
-        done-same
+    for-says : ReasonsFit J (statuses (m .table)) (m .reasons) → tableSize ≤ length (m .table) → (k : ℕ) →
+        statuses (listedFor J m form .table) k ≡ statuses (m .table) k
+    unfolding listedFor listAll statuses
+    for-says reasons long =
+        status-same
         (visits-run (grounded-by-reasons J range m reasons) _
         (route-done (J .final) (m .table) form (J .initial) initial fit e) _ long .0)
 
+  -- the outcome on a table, by whether the form is accepted
+  listed-there : (m : Lent) (out : List ℕ) → acceptsOn J (m .table) form ≡ true →
+      explainFinished J m form out ≡ explainListed (J .rules) (m .reasons) (listedFor J m form) out
+  unfolding explainFinished
+  listed-there m out e = rw e
+
+  none-there : (m : Lent) (out : List ℕ) → acceptsOn J (m .table) form ≡ false →
+      explainFinished J m form out
+      ≡ explainLeaves (record { number = 0; place = 0; accepted = false; records = 0 }) m out
+  unfolding explainFinished
+  none-there m out e = rw e
+
   pub explain-first : (m : Lent) (out : List ℕ) →
       firstOutcome (explainFinished J m form out) ≡ explainFinished J (first m) form out
-  unfolding explainFinished explainListed
+  unfolding explainListed
   explain-first m out =
       let l : Listed = listedFor J m form in
       let same = can-finish-first (J .final) (m .table) form (J .initial) initial fit in
       cases (acceptsOn J (m .table) form)
-      (λ e. rw (e, sym same ∙ e, ← listed-first m e)
-      (leaves-cut (take tableSize) (take reasonsSize) (ltb (length out) _) (J .rules) (m .reasons) l out
-      (records-first (J .rules) (m .reasons) (l .places) (for-within m e))))
-      (λ e. rw (e, sym same ∙ e) refl)
+      (λ e. ap firstOutcome (listed-there m out e)
+      ∙ leaves-cut (take tableSize) (take reasonsSize) (ltb (length out) _) (J .rules) (m .reasons) l out
+      (records-first (J .rules) (m .reasons) (l .places) (for-within m e))
+      ∙ ap (λ k. explainListed (J .rules) (first m .reasons) k out) (listed-first m e)
+      ∙ sym (listed-there (first m) out (sym same ∙ e)))
+      (λ e. ap firstOutcome (none-there m out e) ∙ sym (none-there (first m) out (sym same ∙ e)))
 
   pub explain-keeps : (m : Lent) (out : List ℕ) → KeepsRest m (explainFinished J m form out .lent)
   explain-keeps m out =
       explain-cases J m form out (λ o. KeepsRest m (o .lent)) (for-keeps m) (for-keeps m)
       (λ e. record { long-table = refl; long-reasons = refl; rest-table = refl; rest-reasons = refl })
 
-  pub explain-done :
+  pub explain-says :
       (m : Lent) (out : List ℕ) → ReasonsFit J (statuses (m .table)) (m .reasons) → tableSize ≤ length (m .table) →
-      (k : ℕ) → isDone (getD (explainFinished J m form out .lent .table) k 0) ≡ isDone (getD (m .table) k 0)
-  explain-done m out reasons long k =
-      explain-cases J m form out (λ o. isDone (getD (o .lent .table) k 0) ≡ isDone (getD (m .table) k 0))
-      (λ e. for-done m e reasons long k) (λ e. for-done m e reasons long k) (λ e. refl)
+      statuses (explainFinished J m form out .lent .table) ≡ statuses (m .table)
+  explain-says m out reasons long =
+      λ i k. explain-cases J m form out (λ o. statuses (o .lent .table) k ≡ statuses (m .table) k)
+      (λ e. for-says m e reasons long k) (λ e. for-says m e reasons long k) (λ e. refl) i
+
+  pub explain-reasons : (m : Lent) (out : List ℕ) → explainFinished J m form out .lent .reasons ≡ m .reasons
+  explain-reasons m out =
+      explain-cases J m form out (λ o. o .lent .reasons ≡ m .reasons) (λ e. refl) (λ e. refl) (λ e. refl)

@@ -91,7 +91,7 @@ in-turn-first : (f g : ℕ → Listed → Listed) →
 unfolding inTurn
 in-turn-first f g same [] within l = refl
 in-turn-first f g same (p ∷ ps) within l =
-    in-turn-first f g same ps (λ q m. within q (List·Memᴰ·tail m)) _
+    in-turn-first f g same ps (λ q m. within q (List·Memᴰ·tail m)) (f p l)
     ∙ ap (inTurn g ps) (same p (within p (List·Memᴰ·head refl)) l)
 
 cond-carried :

@@ -1,13 +1,13 @@
 -- Reasons that fit, as saturation leaves them, lead down: the premises that a reason decodes to are those that it was
 -- made of. Assumes nothing.
-use Rattle.grammar.proofs.Basics.{_≡_, refl, _∙_, ap, ⊎-elim, inl, inr, true, List·Memᴰ, List·Memᴰ·not-nil}
-use Rattle.grammar.proofs.Basics.{List·Memᴰ·cases-cons, List·Memᴰ·eq-of-singleton, ℕ, _<_, _≤_, _-_, _/_, _%_, arith}
-use Rattle.grammar.proofs.Basics.{leb, getD, eq-eqb, ne-eqb, leb-true, leb-false, cases}
+use Rattle.grammar.proofs.Basics.{_≡_, refl, _∙_, ap, ⊎-elim, inl, inr, true, false, List, List·Memᴰ}
+use Rattle.grammar.proofs.Basics.{List·Memᴰ·not-nil, List·Memᴰ·cases-cons, List·Memᴰ·eq-of-singleton, ℕ, _<_, _≤_, _-_}
+use Rattle.grammar.proofs.Basics.{_/_, _%_, arith, leb, getD, eq-eqb, ne-eqb, leb-true, leb-false, cases}
 use Rattle.grammar.specs.Rule.{Rule, head, empty}
 use Rattle.grammar.specs.Closure.{Closure}
 use Rattle.job.specs.Job.{Job}
-use Rattle.saturation.specs.Table.{Lent, place, fromState, symbolAt, toState, isDone, byteStatus, statuses, doneIn}
-use Rattle.saturation.specs.Table.{doneAt, givenReason, reasonOf}
+use Rattle.saturation.specs.Table.{Lent, tableSize, place, fromState, symbolAt, toState, isAbsentAt, byteStatus}
+use Rattle.saturation.specs.Table.{statuses, doneIn, doneAt, givenReason, reasonOf, turnAt}
 use Rattle.job.proofs.NoRepeat.{member-at}
 use Rattle.job.specs.Theorems.InRange.{RuleInRange, InRange}
 use Rattle.saturation.specs.Smallest.{Smallest, DecidesSmallest}
@@ -27,9 +27,9 @@ given-in-smallest range h (Closure.by-unit {A = A} {X = X} rule c) = absurd (ome
 given-in-smallest range h (Closure.by-pair {A = A} {X = X} {Y = Y} rule c k) =
     absurd (omega (arith, range .rules _ rule))
 
--- a done place of a table whose reasons fit
+-- a place, pending or done, of a table whose reasons fit
 module _ (J : Job) (range : InRange J) (m : Lent) (fit : ReasonsFit J (statuses (m .table)) (m .reasons)) (p : ℕ)
-    (d : DonePlace (m .table) p) where
+    (within : p < tableSize) (there : isAbsentAt (statuses (m .table)) p ≡ false) where
   abbrev from : ℕ
   from = fromState p
 
@@ -43,22 +43,25 @@ module _ (J : Job) (range : InRange J) (m : Lent) (fit : ReasonsFit J (statuses 
   why = reasonAt (m .reasons) p
 
   abbrev Below : ℕ → Type 0
-  Below x = DonePlace (m .table) x × (fit .height x < fit .height p)
+  Below x = DonePlace (m .table) x × (turnAt (m .reasons) x < turnAt (m .reasons) p)
 
   -- what is to be shown of it: a reason that fits and is true, with premises that are done and lower
   record Leads : Type 0 where
     fits : ReasonFits (J .rules) why
-    is-given : DecidesSmallest J (doneAt (m .table)) → why ≡ givenReason → J .given from symbol to ≡ true
+    is-given :
+        DonePlace (m .table) p → DecidesSmallest J (doneAt (m .table)) → why ≡ givenReason →
+        J .given from symbol to ≡ true
     head-is : (why ≡ givenReason → ⊥) → head (reasonRule (J .rules) why) ≡ symbol
     down : (x : ℕ) → List·Memᴰ x (premises (J .rules) (m .reasons) p) → Below x
 
   -- a given transition has no premises
-  given-leads : why ≡ givenReason → (DecidesSmallest J (doneAt (m .table)) → J .given from symbol to ≡ true) → Leads
+  given-leads : why ≡ givenReason →
+      (DonePlace (m .table) p → DecidesSmallest J (doneAt (m .table)) → J .given from symbol to ≡ true) → Leads
   unfolding premises
   given-leads e given =
       record {
         fits = inl e;
-        is-given = λ smallest same. given smallest;
+        is-given = λ d smallest same. given d smallest;
         head-is = λ other. absurd (other e);
         down = λ x i. absurd (List·Memᴰ·not-nil (rw (eq-eqb why givenReason e) at i));
       }
@@ -76,24 +79,25 @@ module _ (J : Job) (range : InRange J) (m : Lent) (fit : ReasonsFit J (statuses 
       (range .rules _ (member-at (empty 0) (J .rules) rank (rule .0))) in
       record {
         fits = inr (omega arith, omega (arith, rule .0));
-        is-given = λ smallest g. absurd (other g);
+        is-given = λ d smallest g. absurd (other g);
         head-is = λ g. ap head at-rank ∙ h;
         down = λ x i. down in-range x (rw (ne-eqb why givenReason other, at-middle, at-rank) at i);
       }
 
   -- a premise
   premise-leads :
-      (q X r : ℕ) → q < 32 → X < 64 → r < 32 → Premise (doneAt (m .table)) (fit .height) (place from symbol to) q X r →
+      (q X r : ℕ) → q < 32 → X < 64 → r < 32 →
+      Premise (doneAt (m .table)) (turnAt (m .reasons)) (place from symbol to) q X r →
       (x : ℕ) → x ≡ place q X r → Below x
   unfolding doneIn statuses
   premise-leads q X r ql xl rl a x e =
       rw e (
         record { within = place-below q X r ql xl rl; is-done = a .is-done },
-        rw (place-of-parts p (d .within)) at (a .lower),
+        rw (place-of-parts p within) at (a .earlier),
       )
 
-  reason-leads : (n : ℕ) → why ≡ n → Reason J (doneAt (m .table)) (fit .height) from symbol to n → Leads
-  reason-leads n at (Reason.by-given g e) = given-leads (at ∙ e) (λ smallest. g)
+  reason-leads : (n : ℕ) → why ≡ n → Reason J (doneAt (m .table)) (turnAt (m .reasons)) from symbol to n → Leads
+  reason-leads n at (Reason.by-given g e) = given-leads (at ∙ e) (λ d smallest. g)
   reason-leads n at (Reason.by-empty rank g e rule s l) =
       rule-leads rank 0 (empty symbol) (at ∙ e) (omega arith) rule refl (λ low x i. absurd (List·Memᴰ·not-nil i))
   reason-leads n at (Reason.by-unit rank X g e rule a) =
@@ -109,32 +113,42 @@ module _ (J : Job) (range : InRange J) (m : Lent) (fit : ReasonsFit J (statuses 
   place-leads : Leads
   unfolding doneIn statuses
   place-leads =
-      let done : isDone (getD (m .table) (place from symbol to) 0) ≡ true =
-      rw (place-of-parts p (d .within)) (d .is-done) in
+      let same = place-of-parts p within in
       cases (leb 32 symbol)
       (λ e. given-leads (rw e)
-      (λ smallest. given-in-smallest range (leb-true 32 symbol e)
-      (smallest from symbol to (omega arith) (omega arith) (omega arith) .0 done)))
+      (λ d smallest. given-in-smallest range (leb-true 32 symbol e)
+      (smallest from symbol to (omega arith) (omega arith) (omega arith) .0 (rw same (d .is-done)))))
       (λ e. reason-leads _ (rw e)
-      (fit .fits from symbol to (omega arith) (leb-false 32 symbol e) (omega arith)
-      (done-not-absent (byteStatus (getD (m .table) _ 0)) done)))
+      (fit .fits from symbol to (omega arith) (leb-false 32 symbol e) (omega arith) (rw same there)))
+
+-- what is done is there
+there-of : {t : List ℕ} {p : ℕ} → DonePlace t p → isAbsentAt (statuses t) p ≡ false
+unfolding statuses
+there-of {t} {p} d = done-not-absent (byteStatus (getD t p 0)) (d .is-done)
 
 module _ (J : Job) (range : InRange J) (m : Lent) (fit : ReasonsFit J (statuses (m .table)) (m .reasons)) where
+  -- so turns fall from what is pending or done to its premises
+  pub premises-earlier : (p q : ℕ) → p < tableSize → isAbsentAt (statuses (m .table)) p ≡ false →
+      List·Memᴰ q (premises (J .rules) (m .reasons) p) → turnAt (m .reasons) q < turnAt (m .reasons) p
+  premises-earlier p q within there i = place-leads J range m fit p within there .down q i .1
+
+  leads : (p : ℕ) (d : DonePlace (m .table) p) → Leads J range m fit p (d .within) (there-of d)
+  leads p d = place-leads J range m fit p (d .within) (there-of d)
+
   pub grounded-by-reasons : Grounded (J .rules) (m .reasons) (m .table)
   unfolding statuses
   grounded-by-reasons =
       record {
-        height = fit .height;
         bounded = λ p d. omega (arith, fit .done-bounded p (d .within) (d .is-done), done-bound (m .table));
-        reason = λ p d. place-leads J range m fit p d .fits;
-        premise-done = λ p q d i. place-leads J range m fit p d .down q i .0;
-        premise-lower = λ p q d i. place-leads J range m fit p d .down q i .1;
+        reason = λ p d. leads p d .fits;
+        premise-done = λ p q d i. leads p d .down q i .0;
+        premise-earlier = λ p q d i. leads p d .down q i .1;
       }
 
   pub true-by-reasons :
       DecidesSmallest J (doneAt (m .table)) → TrueReasons (J .rules) (J .given) (m .reasons) (m .table)
   true-by-reasons smallest =
       record {
-        is-given = λ p d. place-leads J range m fit p d .is-given smallest;
-        head-is = λ p d. place-leads J range m fit p d .head-is;
+        is-given = λ p d. leads p d .is-given d smallest;
+        head-is = λ p d. leads p d .head-is;
       }

@@ -5,8 +5,7 @@ use Rattle.grammar.proofs.Basics.{ℕ, _<_, _≤_, _+_, suc, zero, _*_, arith, 
 use Rattle.grammar.proofs.Basics.{take-at, eqb-true, eqb-false, cases}
 use lib.Seq.{drop-append-add}
 use Rattle.grammar.specs.Rule.{Rule}
-use Rattle.saturation.specs.Table.{tableSize, statuses, givenReason, each}
-use Rattle.saturation.specs.Theorems.Steps.{doneCount}
+use Rattle.saturation.specs.Table.{tableSize, doneCount, statuses, givenReason, turnAt, each}
 use Rattle.saturation.proofs.Tables.Each.{length-each, getD-each-0}
 use Rattle.forms.specs.Listing.{reasonAt, reasonMiddle, premises, reasonBytes, recordOf, recordsAt, isListed}
 use Rattle.forms.specs.Listing.{depthBound, listAll, unmarked}
@@ -104,5 +103,5 @@ module _ {ρs : List Rule} {given : ℕ → ℕ → ℕ → Bool} {reasons t ps 
 pub depth-bound-never-met : DepthBoundNeverMet
 unfolding DepthBoundNeverMet
 depth-bound-never-met ρs reasons t g n enough p d l =
-    let low : g .height p < depthBound = bound-enough g p d in
+    let low : turnAt reasons p < depthBound = bound-enough g p d in
     fuel-enough g n depthBound p d (omega arith) low l

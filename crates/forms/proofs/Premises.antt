@@ -72,7 +72,7 @@ module _ {ρs : List Rule} {reasons t : List ℕ} (g : Grounded ρs reasons t) w
       let member = some-unlisted (l .table) _ other .0 in
       let da = g .premise-done p a d member in
       let left = run-leaves
-      (visit-runs g depthBound _ a da (bound-enough g a da) (g .premise-lower p a d member) l long .0) p
+      (visit-runs g depthBound _ a da (bound-enough g a da) (g .premise-earlier p a d member) l long .0) p
       (omega arith) in
       unlisted-unfolds p d _ (ap (λ z. eqb z 3) left ∙ e)
       ∙ ap (listing p) (first-before _ (λ q. g .premise-done p q d) l long other)

@@ -1,12 +1,12 @@
 -- What a run of listings leaves: more places, each byte as it was or 3, and as many places not listed fewer as are
 -- listed. By induction on the run. Assumes nothing.
-use Rattle.grammar.proofs.Basics.{_≡_, refl, _∙_, sym, ap, ⊎-elim, inl, inr, _⊎_, true, false, not, List, _∷_, []}
-use Rattle.grammar.proofs.Basics.{List·Memᴰ, List·Memᴰ·eq-of-singleton, List·Memᴰ·append-cases, ℕ, _<_, _≤_, _+_, suc}
-use Rattle.grammar.proofs.Basics.{arith, eqb, length, getD, set, length-append, getD-set-other, true-and-false}
+use Rattle.grammar.proofs.Basics.{_≡_, refl, _∙_, sym, ap, ⊎-elim, inl, inr, _⊎_, true, false, false≢true, not, List}
+use Rattle.grammar.proofs.Basics.{_∷_, [], List·Memᴰ, List·Memᴰ·eq-of-singleton, List·Memᴰ·append-cases, ℕ, _<_, _≤_}
+use Rattle.grammar.proofs.Basics.{_+_, suc, arith, eqb, length, getD, set, length-append, getD-set-other}
+use Rattle.grammar.proofs.Basics.{true-and-false}
 use Rattle.grammar.proofs.Counting.{count-one-more, count-bound}
 use Rattle.grammar.specs.Rule.{Rule}
-use Rattle.saturation.specs.Table.{tableSize, isDone, statuses}
-use Rattle.saturation.specs.Theorems.Steps.{doneCount}
+use Rattle.saturation.specs.Table.{tableSize, Status, saysDone, doneCount, byteStatus, statuses}
 use Rattle.forms.specs.Listing.{Listed, isListed}
 use Rattle.forms.specs.Grounded.{DonePlace, Grounded}
 use Rattle.forms.specs.Inside.ListingParts.{unlistedCount, fresh}
@@ -69,25 +69,31 @@ module _ {ρs : List Rule} {reasons t : List ℕ} {g : Grounded ρs reasons t} {
       (λ i. let same : q ≡ p = List·Memᴰ·eq-of-singleton i in inr (rw same (d .done)))
       (List·Memᴰ·append-cases (k .places) m)
 
--- marks leave done what is done
+done-is : (s : Status) → saysDone s ≡ true → s ≡ Status.done
+done-is Status.absent e = absurd (false≢true e)
+done-is Status.pending e = absurd (false≢true e)
+done-is Status.done e = refl
+
+-- marks leave what the table says
 module _ {ρs : List Rule} {reasons t : List ℕ} {g : Grounded ρs reasons t} {b : ℕ} {l : Listed}
     (run : Run g b (fresh t) l) where
-  pub done-same : (q : ℕ) → isDone (getD (l .table) q 0) ≡ isDone (getD t q 0)
-  done-same q = ⊎-elim (λ e. ap isDone e) (λ m. ap isDone (m .0) ∙ sym (m .1 .is-done)) (run-marks run q)
+  pub status-same : (q : ℕ) → byteStatus (getD (l .table) q 0) ≡ byteStatus (getD t q 0)
+  status-same q =
+      ⊎-elim (λ e. ap byteStatus e)
+      (λ m. ap byteStatus (m .0) ∙ sym (done-is (byteStatus (getD t q 0)) (m .1 .is-done))) (run-marks run q)
 
   pub done-kept : (q : ℕ) → DonePlace t q → DonePlace (l .table) q
-  done-kept q d = record { within = d .within; is-done = done-same q ∙ d .is-done }
+  done-kept q d = record { within = d .within; is-done = ap saysDone (status-same q) ∙ d .is-done }
 
   done-before : (q : ℕ) → DonePlace (l .table) q → DonePlace t q
-  done-before q d = record { within = d .within; is-done = sym (done-same q) ∙ d .is-done }
+  done-before q d = record { within = d .within; is-done = ap saysDone (sym (status-same q)) ∙ d .is-done }
 
   -- and with it what a walk needs
   pub grounded-kept : Grounded ρs reasons (l .table)
   grounded-kept =
       record {
-        height = g .height;
         bounded = λ p d. g .bounded p (done-before p d);
         reason = λ p d. g .reason p (done-before p d);
         premise-done = λ p q d m. done-kept q (g .premise-done p q (done-before p d) m);
-        premise-lower = λ p q d. g .premise-lower p q (done-before p d);
+        premise-earlier = λ p q d. g .premise-earlier p q (done-before p d);
       }

@@ -1,11 +1,11 @@
--- A visit is a run of listings: each of a done place that is not listed yet, below a height, and of which every
+-- A visit is a run of listings: each of a done place that is not listed yet, below a turn, and of which every
 -- premise is listed. What holds of visits follows by induction on the run. Assumes nothing.
 use Rattle.grammar.proofs.Basics.{_≡_, refl, _∙_, sym, ap, subst, ⊎-elim, true, false, List, _∷_, [], List·Memᴰ}
 use Rattle.grammar.proofs.Basics.{List·Memᴰ·head, List·Memᴰ·tail, List·Memᴰ·not-nil, List·Memᴰ·cases-cons, ℕ, _<_, _≤_}
 use Rattle.grammar.proofs.Basics.{suc, zero, arith, eqb, length, getD, set, length-set, getD-set-other, getD-set-same}
 use Rattle.grammar.proofs.Basics.{eq-eqb, eqb-true, eqb-false, cases}
 use Rattle.grammar.specs.Rule.{Rule}
-use Rattle.saturation.specs.Table.{tableSize}
+use Rattle.saturation.specs.Table.{tableSize, turnAt}
 use Rattle.forms.specs.Listing.{Listed, listing, inTurn, premises, visit, isListed, depthBound}
 use Rattle.forms.specs.Grounded.{DonePlace, Grounded}
 use Rattle.forms.proofs.Visits.{bound-enough}
@@ -16,11 +16,11 @@ pub record Due (ρs : List Rule) (reasons t now : List ℕ) (p : ℕ) : Type 0 w
   pub unlisted : isListed now p ≡ false
   pub behind : (q : ℕ) → List·Memᴰ q (premises ρs reasons p) → isListed now q ≡ true
 
--- listings of done places, one after the other, of heights below a bound, on a table of full size
+-- listings of done places, one after the other, of turns below a bound, on a table of full size
 pub data Run {ρs : List Rule} {reasons t : List ℕ} (g : Grounded ρs reasons t) (bound : ℕ) (l : Listed) : Listed → Type
     0 where
   nothing : tableSize ≤ length (l .table) → Run g bound l l
-  more : {l' : Listed} (p : ℕ) → Run g bound l l' → Due ρs reasons t (l' .table) p → g .height p < bound →
+  more : {l' : Listed} (p : ℕ) → Run g bound l l' → Due ρs reasons t (l' .table) p → turnAt reasons p < bound →
       Run g bound l (listing p l')
 
 -- after one listing
@@ -39,7 +39,7 @@ set-cases P t p q v h here there =
     (λ e. rw (getD-set-other t p q v 0 (eqb-false q p e)) (there (eqb-false q p e)))
 
 module _ {ρs : List Rule} {reasons t : List ℕ} {g : Grounded ρs reasons t} where
-  -- runs join, and a run below a height is one below a greater one
+  -- runs join, and a run below a turn is one below a later one
   pub run-trans : {b : ℕ} {l l' l'' : Listed} → Run g b l l' → Run g b l' l'' → Run g b l l''
   run-trans r (Run.nothing long) = r
   run-trans r (Run.more p s d h) = Run.more p (run-trans r s) d h
@@ -66,10 +66,10 @@ module _ {ρs : List Rule} {reasons t : List ℕ} {g : Grounded ρs reasons t} w
         (λ other. run-keeps s q e)
 
     pub run-leaves :
-        {l' : Listed} → Run g b l l' → (q : ℕ) → b ≤ g .height q → getD (l' .table) q 0 ≡ getD (l .table) q 0
+        {l' : Listed} → Run g b l l' → (q : ℕ) → b ≤ turnAt reasons q → getD (l' .table) q 0 ≡ getD (l .table) q 0
     run-leaves (Run.nothing long) q k = refl
     run-leaves (Run.more {l' = m} p s d h) q k =
-        getD-set-other (m .table) p q 3 0 (λ e. omega (arith, ap (g .height) e)) ∙ run-leaves s q k
+        getD-set-other (m .table) p q 3 0 (λ e. omega (arith, ap (turnAt reasons) e)) ∙ run-leaves s q k
 
 module _ {ρs : List Rule} {reasons t : List ℕ} (g : Grounded ρs reasons t) where
   -- a run that lists a place
@@ -90,13 +90,14 @@ module _ {ρs : List Rule} {reasons t : List ℕ} (g : Grounded ρs reasons t) w
       )
 
   -- a visit lists its place after its premises, which are lower
-  pub visit-runs : (n b p : ℕ) → DonePlace t p → g .height p < n → g .height p < b → Lists b (visit n ρs reasons p) p
+  pub visit-runs : (n b p : ℕ) → DonePlace t p → turnAt reasons p < n → turnAt reasons p < b →
+      Lists b (visit n ρs reasons p) p
   unfolding visit
   visit-runs zero b p d h k l long = absurd (omega arith)
   visit-runs (suc n) b p d h k l long =
       let (run, all) = in-turn-runs _ _ _
       (λ q i.
-      let low : g .height q < g .height p = g .premise-lower p q d i in
+      let low : turnAt reasons q < turnAt reasons p = g .premise-earlier p q d i in
       visit-runs n _ q (g .premise-done p q d i) (omega arith) low)
       l long in
       cases (isListed (l .table) p) (λ e. rw e (Run.nothing long, e))

@@ -4,7 +4,7 @@ use Rattle.grammar.proofs.Basics.{_≡_, refl, _∙_, ap, ⊎-elim, false, Bool
 use Rattle.grammar.proofs.Basics.{List·Memᴰ·cases-cons, ℕ, _<_, _+_, _-_, _*_, arith, eqb, leb, length, set}
 use Rattle.grammar.proofs.Basics.{length-set, eqb-true, eqb-false, leb-true, leb-false, cases}
 use Rattle.grammar.specs.Rule.{Rule}
-use Rattle.saturation.specs.Table.{tableSize, reasonsSize, symbolAt}
+use Rattle.saturation.specs.Table.{tableSize, reasonsSize, symbolAt, turnAt}
 use Rattle.forms.specs.Listing.{Listed, inTurn, premises, visit, isListed, depthBound}
 use Rattle.forms.specs.Grounded.{DonePlace, Grounded}
 use Rattle.forms.specs.Inside.ListingParts.{unlistedCount, CanVisit, ListingPass, fresh, shown, listOne}
@@ -27,7 +27,7 @@ pub record Underway (write : Bool) (ρs : List Rule) (reasons : List ℕ) (p : �
       Way write a (can .listable) (visit depthBound ρs reasons p (fresh (a .table))) (onPath (s .path) (s .depth))
       (s .pass)
   pub path-full : length (s .path) ≡ reasonsSize
-  pub chain : Chain (can .listable .grounded .height) (a .table) (s .pass .table) (onPath (s .path) (s .depth))
+  pub chain : Chain (turnAt reasons) (a .table) (s .pass .table) (onPath (s .path) (s .depth))
 
 -- a measure of what is left
 abbrev pub leftOf : List ℕ → ℕ → ℕ
@@ -57,7 +57,7 @@ module _
     next = nextOf ρs reasons s
 
     abbrev Linked : List ℕ → Type 0
-    Linked = Chain (g .height) (a .table) (s .pass .table)
+    Linked = Chain (turnAt reasons) (a .table) (s .pass .table)
 
     -- where a move may lead
     abbrev MovedTo : Walking → Type 0
@@ -81,7 +81,7 @@ module _
       split : Linked (last ∷ behind)
       split = rw path-is at (u .chain)
 
-      top : Link (g .height) (a .table) (s .pass .table) last behind
+      top : Link (turnAt reasons) (a .table) (s .pass .table) last behind
       top = chain-top split
 
       comes : inTurn (visited g) behind (visited g last so-far) ≡ final
@@ -131,7 +131,7 @@ module _
               is-variable = v;
               unlisted = next-is .1;
               lowest = λ q m.
-                  let below = g .premise-lower last next (top .done) (next-is .0) in
+                  let below = g .premise-earlier last next (top .done) (next-is .0) in
                   ⊎-elim (λ e. rw e below) (λ k. omega (arith, top .lowest q k))
                   (List·Memᴰ·cases-cons (rw path-is at m));
             })
@@ -174,7 +174,7 @@ module _
             unlisted = top .unlisted;
             behind = none-unlisted _ _ (eqb-true _ tableSize e) (λ q m. g .premise-done last q (top .done) m .within);
           })
-          comes (λ q m same. omega (arith, top .lowest q m, ap (g .height) same)) (chain-rest split)))
+          comes (λ q m same. omega (arith, top .lowest q m, ap (turnAt reasons) same)) (chain-rest split)))
           (λ e.
           let other = eqb-false next tableSize e in
           cases (leb 32 (symbolAt next))

@@ -1,4 +1,4 @@
--- The path of a walk, last place first: heights rise along it, so no place stands on it twice, and as all are
+-- The path of a walk, last place first: turns rise along it, so no place stands on it twice, and as all are
 -- variables' it fits its array. Assumes nothing.
 use Rattle.grammar.proofs.Basics.{_≡_, refl, _∙_, ap, ap₂, ⊎-elim, false, List, _∷_, [], List·Memᴰ, List·Memᴰ·head}
 use Rattle.grammar.proofs.Basics.{List·Memᴰ·tail, List·Memᴰ·not-nil, List·Memᴰ·cases-cons, Memᴰ·of-map, ℕ, _<_, _≤_}
@@ -15,37 +15,37 @@ use Rattle.forms.specs.Grounded.{DonePlace}
 use Rattle.forms.proofs.Distinct.{no-more-than}
 
 -- a place of a path: done, a variable's, not listed, and lower than those before it
-pub record Link (height : ℕ → ℕ) (t now : List ℕ) (p : ℕ) (ps : List ℕ) : Type 0 where
+pub record Link (turn : ℕ → ℕ) (t now : List ℕ) (p : ℕ) (ps : List ℕ) : Type 0 where
   pub done : DonePlace t p
   pub is-variable : symbolAt p < 32
   pub unlisted : isListed now p ≡ false
-  pub lowest : (q : ℕ) → List·Memᴰ q ps → height p < height q
+  pub lowest : (q : ℕ) → List·Memᴰ q ps → turn p < turn q
 
-pub data Chain (height : ℕ → ℕ) (t now : List ℕ) : List ℕ → Type 0 where
-  end : Chain height t now []
-  link : {p : ℕ} {ps : List ℕ} → Link height t now p ps → Chain height t now ps → Chain height t now (p ∷ ps)
+pub data Chain (turn : ℕ → ℕ) (t now : List ℕ) : List ℕ → Type 0 where
+  end : Chain turn t now []
+  link : {p : ℕ} {ps : List ℕ} → Link turn t now p ps → Chain turn t now ps → Chain turn t now (p ∷ ps)
 
-module _ {height : ℕ → ℕ} {t now : List ℕ} where
-  chain-apart : {ps : List ℕ} → Chain height t now ps → NoRepeat ps
+module _ {turn : ℕ → ℕ} {t now : List ℕ} where
+  chain-apart : {ps : List ℕ} → Chain turn t now ps → NoRepeat ps
   unfolding NoRepeat
   chain-apart Chain.end = tt
   chain-apart (Chain.link {p = p} a c) =
-      (λ m. let low : height p < height p = a .lowest p m in omega arith, chain-apart c)
+      (λ m. let low : turn p < turn p = a .lowest p m in omega arith, chain-apart c)
 
-  pub chain-link : {ps : List ℕ} → Chain height t now ps → (q : ℕ) → List·Memᴰ q ps → DonePlace t q × (symbolAt q < 32)
+  pub chain-link : {ps : List ℕ} → Chain turn t now ps → (q : ℕ) → List·Memᴰ q ps → DonePlace t q × (symbolAt q < 32)
   chain-link Chain.end q m = absurd (List·Memᴰ·not-nil m)
   chain-link (Chain.link a c) q m =
       ⊎-elim (λ e. rw e (a .done, a .is-variable)) (λ m'. chain-link c q m') (List·Memᴰ·cases-cons m)
 
-  pub chain-top : {p : ℕ} {ps : List ℕ} → Chain height t now (p ∷ ps) → Link height t now p ps
+  pub chain-top : {p : ℕ} {ps : List ℕ} → Chain turn t now (p ∷ ps) → Link turn t now p ps
   chain-top (Chain.link a c) = a
 
-  pub chain-rest : {p : ℕ} {ps : List ℕ} → Chain height t now (p ∷ ps) → Chain height t now ps
+  pub chain-rest : {p : ℕ} {ps : List ℕ} → Chain turn t now (p ∷ ps) → Chain turn t now ps
   chain-rest (Chain.link a c) = c
 
   -- another place's mark leaves the path as it is
-  pub chain-kept : (x : ℕ) {ps : List ℕ} → ((q : ℕ) → List·Memᴰ q ps → q ≡ x → ⊥) → Chain height t now ps →
-      Chain height t (set now x 3) ps
+  pub chain-kept : (x : ℕ) {ps : List ℕ} → ((q : ℕ) → List·Memᴰ q ps → q ≡ x → ⊥) → Chain turn t now ps →
+      Chain turn t (set now x 3) ps
   chain-kept x other Chain.end = Chain.end
   chain-kept x other (Chain.link {p = p} a c) =
       Chain.link
@@ -58,7 +58,7 @@ module _ {height : ℕ → ℕ} {t now : List ℕ} where
       (chain-kept x (λ q m. other q (List·Memᴰ·tail m)) c)
 
   -- a path is no longer than there are transitions of variables
-  pub chain-fits : {ps : List ℕ} → Chain height t now ps → length ps ≤ reasonsSize
+  pub chain-fits : {ps : List ℕ} → Chain turn t now ps → length ps ≤ reasonsSize
   chain-fits {ps} c =
       omega (
         arith,

@@ -6,12 +6,13 @@ use lib.Dec.{eqb, leb, ltb}
 use lib.ListN.{getD, set}
 use Rattle.grammar.specs.Rule.{Rule, empty, unit, pair}
 use Rattle.job.specs.Format.{byteE, byteU, byteP}
-use Rattle.saturation.specs.Table.{tableSize, place, fromState, symbolAt, toState, reasonPlace, givenReason}
+use Rattle.saturation.specs.Table.{tableSize, place, fromState, symbolAt, toState, reasonPlace, givenReason, reasonIn}
 
--- the reason of the transition at a place; that of a terminal is given, as no rule adds one
+-- the reason of the transition at a place, without its turn; that of a terminal is given, as no rule adds one
 abbrev pub reasonAt : List ℕ → ℕ → ℕ
 reasonAt reasons p =
-    cond (leb 32 (symbolAt p)) givenReason (getD reasons (reasonPlace (fromState p) (symbolAt p) (toState p)) 0)
+    cond (leb 32 (symbolAt p)) givenReason
+    (reasonIn (getD reasons (reasonPlace (fromState p) (symbolAt p) (toState p)) 0))
 
 -- Table and machine: a reason that is not given is one more than 32 times the rank of a rule and the middle state
 abbrev pub reasonRule : List Rule → ℕ → Rule

@@ -14,7 +14,7 @@ ghost use Rattle.forms.specs.Inside.AcceptanceParts.{FormFits};
 ghost use Rattle.forms.specs.Inside.ExplainParts.{Explainable, OnRoute};
 
 // The checks of explain but for 13.
-fn explain_check(job: &[u8], table: &[u8], reasons: &[u16], form: &[u8]) -> Checked
+fn explain_check(job: &[u8], table: &[u8], reasons: &[u32], form: &[u8]) -> Checked
     ensures checked { λ c. ⌜ c
         ≡ explainCheck (now (job .entry)) (lentOf (now (table .entry)) (now (reasons .entry))) (now (form .entry)) ⌝ }
 {
@@ -30,7 +30,7 @@ fn explain_check(job: &[u8], table: &[u8], reasons: &[u16], form: &[u8]) -> Chec
 fn list_accepted(
     job: &[u8],
     table: &mut [u8],
-    reasons: &[u16],
+    reasons: &[u32],
     form: &[u8],
     places: &[u16; job::FORM_SYMBOLS],
     listing: &mut [u8],
@@ -69,7 +69,7 @@ fn list_accepted(
 fn explain_finished(
     job: &[u8],
     table: &mut [u8],
-    reasons: &[u16],
+    reasons: &[u32],
     form: &[u8],
     listing: &mut [u8],
 ) -> Explained
@@ -99,7 +99,7 @@ fn explain_finished(
 pub fn explain(
     job: &[u8],
     table: &mut [u8],
-    reasons: &mut [u16],
+    reasons: &mut [u32],
     form: &[u8],
     listing: &mut [u8],
 ) -> Explained

@@ -6,6 +6,7 @@ use crate::ReasonBytes;
 use saturation::GIVEN_REASON;
 use saturation::STATE_PLACES;
 use saturation::STATE_REASONS;
+use saturation::TURN;
 ghost use mathlib.Core.Path.{_≡_};
 ghost use mathlib.Core.Bool.{cond};
 ghost use mathlib.Core.List.{[], _∷_};
@@ -29,14 +30,15 @@ fn terminal_at(p: usize) -> bool
 }
 
 // The reason of the transition at a place; a terminal's is given.
-fn reason_at(reasons: &[u16], p: usize) -> u16
+fn reason_at(reasons: &[u32], p: usize) -> u16
     requires within { ⌜ (p < tableSize) × (reasonsSize ≤ length (now reasons)) ⌝ }
     ensures reason { λ r. ⌜ r ≡ reasonAt (now (reasons .entry)) p ⌝ }
 {
     if terminal_at(p) {
         return GIVEN_REASON;
     }
-    reasons[p / STATE_PLACES * STATE_REASONS + p / 32 % 64 * 32 + p % 32]
+    let entry = reasons[p / STATE_PLACES * STATE_REASONS + p / 32 % 64 * 32 + p % 32];
+    (entry % TURN) as u16
 }
 
 // The bytes of a rule with a middle state in a record.
@@ -69,7 +71,7 @@ fn rule_bytes(key: u32, middle: u8) -> ReasonBytes
 }
 
 // The bytes of the reason of a done transition in its record.
-fn reason_bytes(reasons: &[u16], keys: &[u32], p: usize) -> ReasonBytes
+fn reason_bytes(reasons: &[u32], keys: &[u32], p: usize) -> ReasonBytes
     requires fits { ⌜ HasReason (rulesOf (now keys)) (now reasons) p ⌝ }
     ensures bytes { λ r. ⌜ fiveBytes r ≡ reasonBytes (rulesOf (now (keys .entry))) (now (reasons .entry)) p ⌝ }
 {
@@ -102,7 +104,7 @@ fn first_unlisted(table: &[u8], a: usize, b: usize) -> usize
 }
 
 // The first premise of a done transition that is not listed, 65,536 where there is none.
-fn next_premise(table: &[u8], reasons: &[u16], keys: &[u32], p: usize) -> usize
+fn next_premise(table: &[u8], reasons: &[u32], keys: &[u32], p: usize) -> usize
     requires able { ⌜ CanList (rulesOf (now keys)) (now reasons) (now table) × DonePlace (now table) p ⌝ }
     ensures next { λ r. ⌜ r
         ≡ firstUnlisted (now (table .entry)) (premises (rulesOf (now (keys .entry))) (now (reasons .entry)) p) ⌝ }
@@ -128,7 +130,7 @@ fn next_premise(table: &[u8], reasons: &[u16], keys: &[u32], p: usize) -> usize
 }
 
 // Writes the record of a done transition.
-fn write_record(reasons: &[u16], keys: &[u32], p: usize, listing: &mut [u8], at: usize)
+fn write_record(reasons: &[u32], keys: &[u32], p: usize, listing: &mut [u8], at: usize)
     requires fits { ⌜ HasReason (rulesOf (now keys)) (now reasons) p ⌝ }
     requires room { ⌜ at + 8 ≤ length (now listing) ⌝ }
     ensures written { λ _. ⌜ now (listing .exit)
@@ -149,7 +151,7 @@ fn write_record(reasons: &[u16], keys: &[u32], p: usize, listing: &mut [u8], at:
 // are listed then.
 fn list_one(
     table: &mut [u8],
-    reasons: &[u16],
+    reasons: &[u32],
     keys: &[u32],
     listing: &mut [u8],
     write: bool,
@@ -174,7 +176,7 @@ fn list_one(
 // One move of the walk: down to a premise that is not listed, or the end of the path is listed.
 fn walk_step(
     table: &mut [u8],
-    reasons: &[u16],
+    reasons: &[u32],
     keys: &[u32],
     path: &mut [u16; job::REASON_NUMBERS],
     listing: &mut [u8],
@@ -211,7 +213,7 @@ fn walk_step(
 // Lists a transition after its premises, unless it is listed. Returns how many are listed then.
 fn visit(
     table: &mut [u8],
-    reasons: &[u16],
+    reasons: &[u32],
     keys: &[u32],
     path: &mut [u16; job::REASON_NUMBERS],
     listing: &mut [u8],
@@ -243,7 +245,7 @@ fn visit(
 // Lists the transitions of a sequence in turn. Returns how many are listed.
 pub fn list_all(
     table: &mut [u8],
-    reasons: &[u16],
+    reasons: &[u32],
     keys: &[u32],
     route: &[u16; job::FORM_SYMBOLS],
     n: usize,

@@ -10,7 +10,7 @@ const TEXT_BYTES: usize = 117;
 // Prints the report on a job.
 fn report(job: &[u8]) {
     let mut table = [0u8; job::TABLE_BYTES];
-    let mut reasons = [0u16; job::REASON_NUMBERS];
+    let mut reasons = [0u32; job::REASON_NUMBERS];
     let mut codes = [0u8; job::CODE_BYTES];
     let report = reporting::operation::report(job, &mut table, &mut reasons, &mut codes);
     let mut out = [0u8; TEXT_BYTES];

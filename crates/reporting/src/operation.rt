@@ -11,7 +11,7 @@ ghost use Rattle.saturation.specs.Table.{lentOf};
 ghost use Rattle.reporting.specs.Operation.{reportCheck, refusedReport, reportLeaves, reportOf};
 
 // The checks of the report: short buffers, then the job's.
-fn report_check(job: &[u8], table: &[u8], reasons: &[u16], codes: &[u8]) -> Checked
+fn report_check(job: &[u8], table: &[u8], reasons: &[u32], codes: &[u8]) -> Checked
     ensures checked { λ c. ⌜ c ≡ reportCheck (now (job .entry))
         (lentOf (now (table .entry)) (now (reasons .entry))) (now (codes .entry)) ⌝ }
 {
@@ -53,7 +53,7 @@ fn refused(c: Checked) -> Report
 }
 
 // Runs a job to the end, asks the start symbol, and gives the verdicts, which leave the table 0.
-pub fn report(job: &[u8], table: &mut [u8], reasons: &mut [u16], codes: &mut [u8]) -> Report
+pub fn report(job: &[u8], table: &mut [u8], reasons: &mut [u32], codes: &mut [u8]) -> Report
     ensures outcome { λ r. ⌜
         reportLeaves r (lentOf (now (table .exit)) (now (reasons .exit))) (now (codes .exit))
         ≡ reportOf (now (job .entry)) (lentOf (now (table .entry)) (now (reasons .entry))) (now (codes .entry))

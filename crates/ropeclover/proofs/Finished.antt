@@ -1,6 +1,6 @@
 -- Demand 2: advances after a start are steps from it, so a finished one leaves the smallest set, and acceptance there
 -- is membership in pre*. Explain starts, runs to the end, and marks only what is done. Assumes nothing.
-use Rattle.grammar.proofs.Basics.{_≡_, refl, ap, _↔_, true, List, _∷_, [], ℕ, _<_, _≤_, arith, eqb, length, getD}
+use Rattle.grammar.proofs.Basics.{_≡_, refl, ap, _↔_, true, List, _∷_, [], ℕ, _<_, _≤_, arith, eqb, length}
 use Rattle.grammar.proofs.Basics.{eqb-true, le-ltb, cases}
 use Rattle.grammar.specs.Rule.{head}
 use Rattle.grammar.specs.Closure.{Closure}
@@ -11,7 +11,7 @@ use Rattle.job.specs.Job.{Job, jobOf}
 use Rattle.job.specs.Theorems.InRange.{InRange}
 use Rattle.job.proofs.Accepted.{accepted-check}
 use Rattle.job.proofs.AcceptedFacts.{in-range, initial-below}
-use Rattle.saturation.specs.Table.{Lent, tableSize, place, isDone, doneIn, doneAt, statuses}
+use Rattle.saturation.specs.Table.{Lent, tableSize, doneAt, statuses}
 use Rattle.saturation.specs.Start.{started}
 use Rattle.saturation.specs.Step.{isFinished}
 use Rattle.saturation.specs.Advance.{steps}
@@ -28,7 +28,7 @@ use Rattle.forms.proofs.AskAnswers.{initial-state}
 use Rattle.forms.proofs.ExplainListing.{finished-smallest}
 use Rattle.forms.proofs.ExplainCases.{explain-answer}
 use Rattle.forms.proofs.ExplainChecks.{explain-passed}
-use Rattle.forms.proofs.ExplainLaws.{explain-keeps, explain-done}
+use Rattle.forms.proofs.ExplainLaws.{explain-keeps, explain-says}
 use Rattle.forms.proofs.FormChecks.{fits-of-check}
 use Rattle.forms.proofs.Membership.{accepted-is-derived}
 use Rattle.ropeclover.specs.FinishedTables.{advances, DoneSet, Finished, ExplainRight, AfterAdvances}
@@ -98,12 +98,6 @@ module _ (job : List ℕ) where
       (run-long (jobOf job) range (since .from) (passed .long) a)
       (run-finished-smallest (jobOf job) range (since .from) (passed .long) a (rw (since .lent) at f)))
 
-  -- marks take nothing away
-  smallest-marked : (t u : List ℕ) → ((k : ℕ) → isDone (getD u k 0) ≡ isDone (getD t k 0)) →
-      DecidesSmallest (jobOf job) (doneAt t) → DecidesSmallest (jobOf job) (doneAt u)
-  unfolding doneIn statuses
-  smallest-marked t u same decides q X r ql xl rl = rw (same (place q X r)) (decides q X r ql xl rl)
-
   explain-right : (m : Lent) (form out : List ℕ) → explainCheck job m form .number ≡ 0 → ExplainRight job m form out
   unfolding explainBy
   explain-right m form out e =
@@ -116,12 +110,12 @@ module _ (job : List ℕ) where
       let smallest = finished-smallest job m form e in
       let long = run-long (jobOf job) (in-range ok) m (passed .long) 65536 in
       let reasons = run-reasons-fit (jobOf job) (in-range ok) m (passed .long) (passed .long-reasons) 65536 in
-      let marked = explain-done (jobOf job) (in-range ok) initial form fit now out reasons long in
+      let marked = explain-says (jobOf job) (in-range ok) initial form fit now out reasons long in
       record {
         finished = rw e
             (holds-smallest job ok left
             (omega (arith, long, explain-keeps (jobOf job) (in-range ok) initial form fit now out .long-table))
-            (smallest-marked (now .table) (left .table) marked smallest));
+            (rw marked smallest));
         answered =
             rw e (λ z. rw (explain-answer (jobOf job) now form out z) (derived job ok (now .table) smallest form fit));
       }

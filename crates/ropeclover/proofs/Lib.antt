@@ -7,6 +7,7 @@ pub mod CallsAlike
 pub mod RunKept
 pub mod RunCounts
 pub mod TwoRunsAlike
+pub mod TurnsInRuns
 pub mod WiderRuns
 pub mod Finished
 pub mod FiledTests

@@ -26,7 +26,7 @@ pub record SameLengths (m n : Lent) : Type 0 where
   pub table : length (m .table) ≡ length (n .table)
   pub reasons : length (m .reasons) ≡ length (n .reasons)
 
--- The two runs: equal first 65,536 bytes and 32,768 reasons, or all of them where there are fewer
+-- The two runs: equal first 65,536 bytes and 32,768 reasons, with their turns, or all of them where there are fewer
 pub record SameFirst (m n : Lent) : Type 0 where
   pub table : take tableSize (m .table) ≡ take tableSize (n .table)
   pub reasons : take reasonsSize (m .reasons) ≡ take reasonsSize (n .reasons)

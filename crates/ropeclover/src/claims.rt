@@ -1,6 +1,7 @@
 // The demands as claims: each is carried by a function with an empty body.
 ghost use Rattle.ropeclover.specs.Filed.{FiledGrammars};
 ghost use Rattle.ropeclover.specs.FinishedTables.{FinishedTables};
+ghost use Rattle.ropeclover.specs.Turns.{TurnsInRuns};
 ghost use Rattle.ropeclover.specs.TwoRuns.{TwoRuns};
 ghost use Rattle.ropeclover.specs.WiderClasses.{WiderClasses};
 
@@ -13,6 +14,11 @@ pub fn finished_tables()
 // Demand 3: two runs of a list of calls, the records in different orders, are alike, and the counts add up.
 pub fn two_runs()
     ensures theorem { λ r. ⌜ TwoRuns ⌝ }
+{}
+
+// As long as only advances and explains have written since a start, turns fall from a transition to its premises.
+pub fn turns_in_runs()
+    ensures theorem { λ r. ⌜ TurnsInRuns ⌝ }
 {}
 
 // The proved grammars on file: what is said of each holds by the definitions.

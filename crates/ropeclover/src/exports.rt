@@ -86,7 +86,7 @@ fn write_asked(answer: &mut [u64], r: Asked)
 pub extern "C" fn ropeclover_start(
     job: &[u8],
     table: &mut [u8],
-    reasons: &mut [u16],
+    reasons: &mut [u32],
     answer: &mut [u64; 3],
 )
     ensures answered { λ _. ⌜ now (answer .exit)
@@ -102,7 +102,7 @@ pub extern "C" fn ropeclover_start(
 pub extern "C" fn ropeclover_advance(
     job: &[u8],
     table: &mut [u8],
-    reasons: &mut [u16],
+    reasons: &mut [u32],
     n: u64,
     answer: &mut [u64; 5],
 )
@@ -129,7 +129,7 @@ pub extern "C" fn ropeclover_ask(job: &[u8], table: &[u8], form: &[u8], answer: 
 pub extern "C" fn ropeclover_explain(
     job: &[u8],
     table: &mut [u8],
-    reasons: &mut [u16],
+    reasons: &mut [u32],
     form: &[u8],
     listing: &mut [u8],
     answer: &mut [u64; 4],
@@ -200,7 +200,7 @@ pub extern "C" fn ropeclover_binarize(text: &[u8], job: &mut [u8], answer: &mut 
 pub extern "C" fn ropeclover_start_bits(
     job: &[u8],
     bits: &mut [u8],
-    reasons: &mut [u16],
+    reasons: &mut [u32],
     answer: &mut [u64; 3],
 )
     ensures answered { λ _. ⌜ now (answer .exit)
@@ -216,7 +216,7 @@ pub extern "C" fn ropeclover_start_bits(
 pub extern "C" fn ropeclover_advance_bits(
     job: &[u8],
     bits: &mut [u8],
-    reasons: &mut [u16],
+    reasons: &mut [u32],
     n: u64,
     answer: &mut [u64; 5],
 )

@@ -17,7 +17,7 @@ ghost use Rattle.binarize.specs.Operation.{binarizeOf, binarizeLeaves};
 ghost use Rattle.bits.specs.Operations.{startBitsOf, advanceBitsOf, askBitsOf, doneCountOf};
 
 // Writes the table and the reasons that the job starts from, and answers its number of states.
-pub fn start(job: &[u8], table: &mut [u8], reasons: &mut [u16]) -> Started
+pub fn start(job: &[u8], table: &mut [u8], reasons: &mut [u32]) -> Started
     ensures left { λ r. ⌜ startLeaves r (lentOf (now (table .exit)) (now (reasons .exit)))
         ≡ startOf (now (job .entry)) (lentOf (now (table .entry)) (now (reasons .entry))) ⌝ }
 {
@@ -27,7 +27,7 @@ pub fn start(job: &[u8], table: &mut [u8], reasons: &mut [u16]) -> Started
 // Makes n steps, fewer if finished, on any table whatever. The order of examination (lowest place first) and the
 // reason kept (the smallest offered) are the definition's; what holds of them stands in crate saturation's
 // specs/Theorems.
-pub fn advance(job: &[u8], table: &mut [u8], reasons: &mut [u16], n: u64) -> Advanced
+pub fn advance(job: &[u8], table: &mut [u8], reasons: &mut [u32], n: u64) -> Advanced
     ensures left { λ r. ⌜ advanceLeaves r (lentOf (now (table .exit)) (now (reasons .exit)))
         ≡ advanceOf (now (job .entry)) (lentOf (now (table .entry)) (now (reasons .entry))) n ⌝ }
 {
@@ -45,7 +45,7 @@ pub fn ask(job: &[u8], table: &[u8], form: &[u8]) -> Asked
 pub fn explain(
     job: &[u8],
     table: &mut [u8],
-    reasons: &mut [u16],
+    reasons: &mut [u32],
     form: &[u8],
     listing: &mut [u8],
 ) -> Explained
@@ -79,7 +79,7 @@ pub fn binarize(text: &[u8], job: &mut [u8]) -> Binarized
 }
 
 // Start on a bit table: it writes all of both halves.
-pub fn start_bits(job: &[u8], bits: &mut [u8], reasons: &mut [u16]) -> Started
+pub fn start_bits(job: &[u8], bits: &mut [u8], reasons: &mut [u32]) -> Started
     ensures left { λ r. ⌜ startLeaves r (lentOf (now (bits .exit)) (now (reasons .exit)))
         ≡ startBitsOf (now (job .entry)) (lentOf (now (bits .entry)) (now (reasons .entry))) ⌝ }
 {
@@ -88,7 +88,7 @@ pub fn start_bits(job: &[u8], bits: &mut [u8], reasons: &mut [u16]) -> Started
 
 // Advance on a bit table, whatever it holds: the steps of the byte table that says the same. What holds of them stands
 // in crate bits' specs/Theorems.
-pub fn advance_bits(job: &[u8], bits: &mut [u8], reasons: &mut [u16], n: u64) -> Advanced
+pub fn advance_bits(job: &[u8], bits: &mut [u8], reasons: &mut [u32], n: u64) -> Advanced
     ensures left { λ r. ⌜ advanceLeaves r (lentOf (now (bits .exit)) (now (reasons .exit)))
         ≡ advanceBitsOf (now (job .entry)) (lentOf (now (bits .entry)) (now (reasons .entry))) n ⌝ }
 {

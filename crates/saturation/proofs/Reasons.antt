@@ -1,3 +1,4 @@
 -- Laws: reasons that fit.
+pub mod Turns
 pub mod Steps
 pub mod Runs

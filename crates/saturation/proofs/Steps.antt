@@ -1,5 +1,6 @@
 -- Laws: what a step makes, and runs of steps.
 pub mod Taken
+pub mod Turns
 pub mod Taking
 pub mod StepLaws
 pub mod MeetingsMade

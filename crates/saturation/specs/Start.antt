@@ -27,7 +27,7 @@ startByte J p old =
     (cond (J .given (fromState p) (symbolAt p) (toState p) || isEmptyAt J (fromState p) (symbolAt p) (toState p)) 1 0)
 
 -- a given transition of a variable has the reason given, also where an E rule makes it; the others of E rules have
--- that of the rule
+-- that of the rule. The turn of all of them is 0, so that the reason alone stands there.
 abbrev pub startReason : Job → ℕ → ℕ → ℕ
 startReason J k old =
     cond (leb reasonsSize k) old

@@ -6,8 +6,9 @@ use mathlib.Core.Bool.{Bool, true, false, cond, _||_}
 use mathlib.Core.List.{List, [], _∷_}
 use lib.Dec.{eqb, leb}
 use lib.ListN.{length, getD, drop}
+use Rattle.grammar.specs.Counting.{count}
 
--- what is lent: a table of bytes and reasons of 16 bits each
+-- what is lent: a table of bytes and reasons of 32 bits each
 pub record Lent : Type 0 where
   pub table : List ℕ
   pub reasons : List ℕ
@@ -91,6 +92,10 @@ isDoneAt v p = saysDone (v p)
 unfoldable pub doneIn : Statuses → ℕ → ℕ → ℕ → Bool
 doneIn v q X r = isDoneAt v (place q X r)
 
+-- the number of done places
+unfoldable pub doneCount : Statuses → ℕ
+doneCount v = count (isDoneAt v) tableSize
+
 -- a byte of 1 is pending, 2 is done, 3 is done and listed; every other is absent
 abbrev pub byteStatus : ℕ → Status
 byteStatus b = cond (eqb b 1) Status.pending (cond (eqb b 2 || eqb b 3) Status.done Status.absent)
@@ -125,6 +130,23 @@ lesser a b = cond (eqb a 0) b (cond (eqb b 0) a (cond (leb a b) a b))
 -- a reason where a test holds, else none
 abbrev pub when : Bool → ℕ → ℕ
 when b n = cond b n 0
+
+-- what stands among the reasons: a reason, and 65,536 times the turn at which its transition was added
+abbrev pub entryOf : ℕ → ℕ → ℕ
+entryOf reason turn = reason + 65536 * turn
+
+-- the reason and the turn of what stands there
+abbrev pub reasonIn : ℕ → ℕ
+reasonIn entry = entry % 65536
+
+abbrev pub turnIn : ℕ → ℕ
+turnIn entry = entry / 65536
+
+-- the turn of the transition at a place; that of a terminal is 0, as no step adds one
+abbrev pub turnAt : List ℕ → ℕ → ℕ
+turnAt reasons p =
+    cond (leb 32 (symbolAt p)) 0
+    (turnIn (getD reasons (reasonPlace (fromState p) (symbolAt p) (toState p)) 0))
 
 -- a list changed element by element, by its index from i on
 unfoldable pub each : (ℕ → ℕ → ℕ) → ℕ → List ℕ → List ℕ

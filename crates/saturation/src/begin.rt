@@ -21,7 +21,7 @@ ghost use Rattle.job.specs.Inside.Keys.{KeyFits, ruleOfKey};
 ghost use Rattle.saturation.specs.Inside.StartParts.{TransitionFits, giving, givingAll, loopingRule, loopingAll};
 
 // The transition of a T record is pending, and given if its label is a variable.
-fn give(table: &mut [u8], reasons: &mut [u16], given: JobRecord)
+fn give(table: &mut [u8], reasons: &mut [u32], given: JobRecord)
     requires long { ⌜ (tableSize ≤ length (now table)) × (reasonsSize ≤ length (now reasons)) ⌝ }
     requires fits { ⌜ TransitionFits given ⌝ }
     ensures given { λ _. ⌜ lentOf (now (table .exit)) (now (reasons .exit))
@@ -37,11 +37,11 @@ fn give(table: &mut [u8], reasons: &mut [u16], given: JobRecord)
     if !grammar::is_variable(given.second) {
         return;
     }
-    reasons[q * STATE_REASONS + x * 32 + r] = GIVEN_REASON;
+    reasons[q * STATE_REASONS + x * 32 + r] = GIVEN_REASON as u32;
 }
 
 // The transitions of all T records.
-fn give_all(job: &[u8], table: &mut [u8], reasons: &mut [u16])
+fn give_all(job: &[u8], table: &mut [u8], reasons: &mut [u32])
     requires long { ⌜ (tableSize ≤ length (now table)) × (reasonsSize ≤ length (now reasons)) ⌝ }
     requires fit { ⌜ ((i : ℕ) → i < length (recordsOf (now job))
         → TransitionFits (getD (recordsOf (now job)) i noRecord)) ⌝ }
@@ -57,7 +57,7 @@ fn give_all(job: &[u8], table: &mut [u8], reasons: &mut [u16])
 }
 
 // The ε transitions of a rule, where it is an E rule, at every state, unless they are there already.
-fn loop_all(table: &mut [u8], reasons: &mut [u16], states: usize, key: u32, rank: u16)
+fn loop_all(table: &mut [u8], reasons: &mut [u32], states: usize, key: u32, rank: u16)
     requires long { ⌜ (tableSize ≤ length (now table)) × (reasonsSize ≤ length (now reasons)) ⌝ }
     requires fits { ⌜ (states ≤ 32) × KeyFits key × (rank < 256) ⌝ }
     ensures looped { λ _. ⌜ lentOf (now (table .exit)) (now (reasons .exit))
@@ -68,7 +68,7 @@ fn loop_all(table: &mut [u8], reasons: &mut [u16], states: usize, key: u32, rank
         return;
     }
     let variable = rule.head as usize;
-    let reason = 1 + 32 * rank;
+    let reason = 1 + 32 * rank as u32;
     let mut q = 0;
     while q < states {
         let place = q * STATE_PLACES + variable * 32 + q;
@@ -78,7 +78,7 @@ fn loop_all(table: &mut [u8], reasons: &mut [u16], states: usize, key: u32, rank
 }
 
 // The ε transitions of the n rules whose sort keys are given in the order of their ranks.
-fn loop_rules(table: &mut [u8], reasons: &mut [u16], states: usize, keys: &[u32], n: usize)
+fn loop_rules(table: &mut [u8], reasons: &mut [u32], states: usize, keys: &[u32], n: usize)
     requires long { ⌜ (tableSize ≤ length (now table)) × (reasonsSize ≤ length (now reasons)) × (states ≤ 32) ⌝ }
     requires fit { ⌜ (n ≤ 256) × (n ≤ length (now keys)) × ((k : ℕ) → k < n → KeyFits (getD (now keys) k 0)) ⌝ }
     ensures looped { λ _. ⌜ lentOf (now (table .exit)) (now (reasons .exit))
@@ -93,7 +93,7 @@ fn loop_rules(table: &mut [u8], reasons: &mut [u16], states: usize, keys: &[u32]
 }
 
 // The same for an array of keys.
-fn loops(table: &mut [u8], reasons: &mut [u16], states: usize, keys: &[u32; RULES], n: usize)
+fn loops(table: &mut [u8], reasons: &mut [u32], states: usize, keys: &[u32; RULES], n: usize)
     requires long { ⌜ (tableSize ≤ length (now table)) × (reasonsSize ≤ length (now reasons)) × (states ≤ 32) ⌝ }
     requires fit { ⌜ (n ≤ 256) × ((k : ℕ) → k < n → KeyFits (getD (now keys) k 0)) ⌝ }
     ensures looped { λ _. ⌜ lentOf (now (table .exit)) (now (reasons .exit))
@@ -105,7 +105,7 @@ fn loops(table: &mut [u8], reasons: &mut [u16], states: usize, keys: &[u32; RULE
 }
 
 // Writes the table and the reasons of an accepted job, and returns its number of states.
-pub fn begin(job: &[u8], table: &mut [u8], reasons: &mut [u16]) -> usize
+pub fn begin(job: &[u8], table: &mut [u8], reasons: &mut [u32]) -> usize
     requires able { ⌜ (tableSize ≤ length (now table)) × (reasonsSize ≤ length (now reasons))
         × Accepted true (now job) ⌝ }
     ensures states { λ s. ⌜ s ≡ jobOf (now (job .entry)) .states ⌝ }

@@ -7,7 +7,7 @@ ghost use Rattle.job.specs.Clear.{cleared};
 ghost use Rattle.saturation.specs.Table.{reasonsSize};
 
 // Makes the first 32,768 reasons 0.
-pub fn clear_reasons(reasons: &mut [u16])
+pub fn clear_reasons(reasons: &mut [u32])
     requires long { ⌜ reasonsSize ≤ length (now reasons) ⌝ }
     ensures cleared { λ _. ⌜ now (reasons .exit) ≡ cleared reasonsSize (now (reasons .entry)) ⌝ }
 {

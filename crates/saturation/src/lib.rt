@@ -19,11 +19,17 @@ pub const STATE_REASONS: usize = 1024;
 // The rows of a table: one of 32 places for each state and symbol.
 pub const ROWS: usize = 2048;
 
+// The bytes of a table that are counted at a time.
+pub const PART_BYTES: usize = 128;
+
 // The ranks that an index of the rules holds: of each symbol those of up to 256 rules.
 pub const INDEX_RANKS: usize = 16384;
 
 // The reason of a given transition.
 pub const GIVEN_REASON: u16 = 65535;
+
+// What a turn counts for in an entry of the reasons: the reason itself is below it.
+pub const TURN: u32 = 65536;
 
 // The steps that finish any table: one for each place.
 pub const MOST_STEPS: u64 = 65536;
@@ -55,8 +61,8 @@ pub struct Counts {
 }
 
 // A walk over 32 partners of a taken transition: the place of the first partner, that of what it gives and that of
-// its reason, and the strides to the next ones. The partner at the skipped place is left out; each other that is done
-// gives its transition with the reason.
+// its entry among the reasons, and the strides to the next ones. The partner at the skipped place is left out; each
+// other that is done gives its transition with the entry.
 pub struct PartnerWalk {
     pub partner: usize,
     pub place: usize,
@@ -64,5 +70,5 @@ pub struct PartnerWalk {
     pub reason_place: usize,
     pub reason_stride: usize,
     pub skipped: usize,
-    pub reason: u16,
+    pub entry: u32,
 }

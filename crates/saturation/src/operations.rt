@@ -12,7 +12,7 @@ ghost use Rattle.saturation.specs.Operations.{machineCheck, startOf, adv
 ghost use Rattle.saturation.specs.Table.{lentOf};
 
 // The checks of start and advance: short buffers, then the job's.
-pub fn machine_check(job: &[u8], table: &[u8], reasons: &[u16]) -> Checked
+pub fn machine_check(job: &[u8], table: &[u8], reasons: &[u32]) -> Checked
     ensures checked { λ c. ⌜ c
         ≡ machineCheck (now (job .entry)) (lentOf (now (table .entry)) (now (reasons .entry))) ⌝ }
 {
@@ -32,7 +32,7 @@ pub fn machine_check(job: &[u8], table: &[u8], reasons: &[u16]) -> Checked
 }
 
 // Writes the table and the reasons that a job starts from, and answers its number of states.
-pub fn start(job: &[u8], table: &mut [u8], reasons: &mut [u16]) -> Started
+pub fn start(job: &[u8], table: &mut [u8], reasons: &mut [u32]) -> Started
     ensures outcome { λ r. ⌜
         startLeaves r (lentOf (now (table .exit)) (now (reasons .exit)))
         ≡ startOf (now (job .entry)) (lentOf (now (table .entry)) (now (reasons .entry)))
@@ -55,7 +55,7 @@ pub fn start(job: &[u8], table: &mut [u8], reasons: &mut [u16]) -> Started
 }
 
 // Makes at most n steps on a table, whatever it holds.
-pub fn advance(job: &[u8], table: &mut [u8], reasons: &mut [u16], n: u64) -> Advanced
+pub fn advance(job: &[u8], table: &mut [u8], reasons: &mut [u32], n: u64) -> Advanced
     ensures outcome { λ r. ⌜
         advanceLeaves r (lentOf (now (table .exit)) (now (reasons .exit)))
         ≡ advanceOf (now (job .entry)) (lentOf (now (table .entry)) (now (reasons .entry))) n

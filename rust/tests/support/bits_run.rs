@@ -2,7 +2,7 @@
 //! it. Answers, bits and reasons are compared whole; buffers stand between guards.
 use super::bits::{self, HALF};
 use super::jobs::Pairs;
-use super::run::{length, refusal, steps};
+use super::run::{length, reasons, refusal, steps};
 use super::{Guarded, Random};
 
 /// Bytes of which this many in 65,536 bits are ones.
@@ -16,11 +16,6 @@ pub fn halves(random: &mut Random) -> Vec<u8> {
     let densities = [0, 20, 700, 32_768, 64_836, 65_536];
     let (pending, done) = (*random.pick(&densities), *random.pick(&densities));
     [bytes(random, HALF, pending), bytes(random, HALF, done)].concat()
-}
-
-/// Reasons that no start wrote.
-pub fn reasons(random: &mut Random, length: usize) -> Vec<u16> {
-    (0..length).map(|_| random.next() as u16).collect()
 }
 
 /// What the calls of runs met, to see that they mean something.
@@ -38,9 +33,9 @@ pub struct Run {
     job: Vec<u8>,
     pairs: Pairs,
     bits: Guarded<u8>,
-    reasons: Guarded<u16>,
+    reasons: Guarded<u32>,
     expected_bits: Vec<u8>,
-    expected_reasons: Vec<u16>,
+    expected_reasons: Vec<u32>,
 }
 
 impl Run {
@@ -56,7 +51,7 @@ impl Run {
             job,
             pairs,
             bits: Guarded::new(&bits, 0xa5),
-            reasons: Guarded::new(&reasons, 0xa5a5),
+            reasons: Guarded::new(&reasons, 0xa5a5_a5a5),
             expected_bits: bits,
             expected_reasons: reasons,
         }

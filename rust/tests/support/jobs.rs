@@ -77,6 +77,12 @@ pub fn accepted(random: &mut Random, pairs: Pairs) -> Vec<u8> {
     records.concat()
 }
 
+/// An accepted job that start takes, too: it has an I record.
+pub fn started(random: &mut Random, pairs: Pairs) -> Vec<u8> {
+    let mut jobs = std::iter::repeat_with(|| accepted(random, pairs));
+    jobs.find(|job| job.chunks(4).any(|record| record[0] == b'I')).unwrap()
+}
+
 /// A job with something wrong, most often.
 pub fn damaged(random: &mut Random, pairs: Pairs) -> Vec<u8> {
     let mut job = accepted(random, pairs);

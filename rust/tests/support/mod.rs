@@ -2,6 +2,7 @@
 #![allow(dead_code)]
 pub mod bits;
 pub mod bits_run;
+pub mod both;
 pub mod cky;
 pub mod infinite;
 pub mod jobs;

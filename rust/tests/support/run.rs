@@ -29,6 +29,11 @@ fn table(random: &mut Random) -> Vec<u8> {
     }
 }
 
+/// Reasons that no start wrote: any numbers of 32 bits.
+pub fn reasons(random: &mut Random, length: usize) -> Vec<u32> {
+    (0..length).map(|_| random.next() as u32).collect()
+}
+
 pub fn steps(random: &mut Random) -> u64 {
     match random.below(6) {
         0 => 0,
@@ -42,9 +47,9 @@ pub struct Run {
     job: Vec<u8>,
     pairs: Pairs,
     table: Guarded<u8>,
-    reasons: Guarded<u16>,
+    reasons: Guarded<u32>,
     expected_table: Vec<u8>,
-    expected_reasons: Vec<u16>,
+    expected_reasons: Vec<u32>,
 }
 
 impl Run {
@@ -52,12 +57,12 @@ impl Run {
     pub fn new(random: &mut Random, job: Vec<u8>, pairs: Pairs) -> Run {
         let table = table(random);
         let length = length(random, 32_768);
-        let reasons: Vec<u16> = (0..length).map(|_| random.next() as u16).collect();
+        let reasons = reasons(random, length);
         Run {
             job,
             pairs,
             table: Guarded::new(&table, 0xa5),
-            reasons: Guarded::new(&reasons, 0xa5a5),
+            reasons: Guarded::new(&reasons, 0xa5a5_a5a5),
             expected_table: table,
             expected_reasons: reasons,
         }

@@ -8,7 +8,7 @@ use Rattle.grammar.specs.Counting.{HasCount}
 use Rattle.grammar.proofs.Counting.{count-monotone, count-equal, has-count-unique}
 use Rattle.saturation.specs.Table.{tableSize, place, fromState, symbolAt, toState, Statuses, isDoneAt, doneIn}
 use Rattle.saturation.specs.Step.{isFinished}
-use Rattle.saturation.specs.Theorems.Steps.{doneCount}
+use Rattle.saturation.specs.Table.{doneCount}
 use Rattle.saturation.proofs.Tables.Places.{place-of-parts, from-state-place, symbol-at-place, to-state-place}
 use Rattle.saturation.proofs.Tables.RuleRanges.{RulesInRange}
 use Rattle.saturation.proofs.Growing.Invariant.{Grown, GivenInRange}

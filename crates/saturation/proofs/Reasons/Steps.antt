@@ -1,44 +1,56 @@
--- From a start, reasons fit. A step gives a reason to what was absent: its premises are there before, so their heights
+-- From a start, reasons fit. A step gives a reason to what was absent: its premises are there before, so their turns
 -- are at most the done count then, and what the step brings in gets the done count after. Assumes nothing.
-use Rattle.grammar.proofs.Basics.{_≡_, refl, _∙_, sym, ap, ⊎-elim, true, false, cond, List, ℕ, _<_, _≤_, suc, arith}
-use Rattle.grammar.proofs.Basics.{eqb, leb, getD, eqb-true, eqb-false, le-leb, leb-true, cases, true-and-false}
-use Rattle.grammar.proofs.Basics.{not-true-false, not-false-true}
+use Rattle.grammar.proofs.Basics.{_≡_, refl, _∙_, sym, ap, ⊎-elim, true, false, List, ℕ, _<_, _≤_, arith, eqb, leb}
+use Rattle.grammar.proofs.Basics.{getD, eqb-true, eqb-false, le-leb, leb-true, leb-false, lt-leb, cases}
+use Rattle.grammar.proofs.Basics.{true-and-false, not-true-false, not-false-true, and-split, and-both}
 use Rattle.grammar.specs.Rule.{Rule, empty}
 use Rattle.grammar.specs.Automaton.{Holds}
 use Rattle.grammar.proofs.Meetings.{Test}
 use Rattle.job.specs.Job.{Job}
-use Rattle.saturation.specs.Table.{place, fromState, symbolAt, toState, reasonPlace, Statuses, isAbsentAt}
-use Rattle.saturation.specs.Table.{doneIn, reasonOf}
-use Rattle.saturation.specs.Step.{offered, doneWith}
-use Rattle.job.specs.Theorems.InRange.{RuleInRange}
-use Rattle.saturation.specs.Theorems.Steps.{doneCount}
+use Rattle.saturation.specs.Table.{tableSize, place, fromState, symbolAt, toState, reasonPlace, Statuses}
+use Rattle.saturation.specs.Table.{isAbsentAt, doneIn, doneCount, reasonOf, reasonIn, turnAt}
+use Rattle.saturation.specs.Step.{offered, doneWith, comesIn}
+use Rattle.job.specs.Theorems.InRange.{InRange, RuleInRange}
 use Rattle.saturation.specs.Theorems.Reasons.{RuleAt, Premise, Reason, ReasonsFit}
-use Rattle.saturation.proofs.Tables.Places.{from-state-below}
+use Rattle.saturation.specs.Theorems.Turns.{Added}
+use Rattle.saturation.proofs.Tables.Places.{from-state-below, by-parts}
 use Rattle.saturation.proofs.Tables.Statuses.{done-not-absent, pending-not-absent}
 use Rattle.saturation.proofs.Offers.LeastOffer.{Consequent, by-unit, as-front, as-back, least-offer-fits}
 use Rattle.saturation.proofs.Offers.LeastOffer.{at-rank}
 use Rattle.saturation.proofs.Steps.Taken.{Taken, ReasonsTaken, done-kept, done-others, there-kept}
 use Rattle.saturation.proofs.Steps.Taken.{offered-comes, comes-from, taken-done-count}
-use Rattle.saturation.proofs.Tables.RuleRanges.{RulesInRange}
 use Rattle.saturation.proofs.Growing.Invariant.{Grown, with-done-after, with-there, taken-with}
+use Rattle.saturation.proofs.Reasons.Turns.{turn-at, turn-kept, taken-added}
 
-module _ (J : Job) (range : RulesInRange (J .rules)) where
+-- what is there after a step and was not before came in
+module _ {ρs : List Rule} {v : Statuses} {p : ℕ} {v' : Statuses} (taken : Taken ρs v p v') where
+  taken-there : isAbsentAt v p ≡ false
+  taken-there = pending-not-absent (v p) (taken .pending)
+
+  new-comes : (q X r : ℕ) → q < 32 → X < 64 → r < 32 → isAbsentAt v (place q X r) ≡ true →
+      isAbsentAt v' (place q X r) ≡ false → comesIn ρs v p q X r ≡ true
+  new-comes q X r ql xl rl new there =
+      and-both _ _ new
+      (⊎-elim (λ e. true-and-false new (ap (isAbsentAt v) e ∙ taken-there))
+      (⊎-elim (λ e. true-and-false new e) (le-leb 1 _)) (comes-from taken q X r ql xl rl there))
+
+module _ (J : Job) (range : InRange J) where
   rule-range : {rank : ℕ} {ρ : Rule} → RuleAt (J .rules) rank ρ → RuleInRange ρ
-  rule-range {rank} {ρ} rule = range ρ (rw (rule .1) at (at-rank (J .rules) rank (empty 0) (rule .0)))
+  rule-range {rank} {ρ} rule = range .rules ρ (rw (rule .1) at (at-rank (J .rules) rank (empty 0) (rule .0)))
 
-  -- a reason stays one where the done transitions stay, and their heights
-  module _ (done done' : Test) (height height' : ℕ → ℕ)
+  -- a reason stays one where the done transitions stay, and their turns
+  module _ (done done' : Test) (turn turn' : ℕ → ℕ)
       (stays :
       (q X r : ℕ) → q < 32 → X < 64 → r < 32 → done q X r ≡ true →
-      (done' q X r ≡ true) × (height' (place q X r) ≡ height (place q X r))) where
-    premise-carries : {above q X r : ℕ} → q < 32 → X < 64 → r < 32 → height' above ≡ height above →
-        Premise done height above q X r → Premise done' height' above q X r
+      (done' q X r ≡ true) × (turn' (place q X r) ≡ turn (place q X r))) where
+    premise-carries : {above q X r : ℕ} → q < 32 → X < 64 → r < 32 → turn' above ≡ turn above →
+        Premise done turn above q X r → Premise done' turn' above q X r
     premise-carries {above} {q} {X} {r} ql xl rl same a =
         let s = stays q X r ql xl rl (a .is-done) in
-        record { is-done = s .0; lower = omega (arith, a .lower) }
+        record { is-done = s .0; earlier = omega (arith, a .earlier) }
 
-    reason-carries : (q A r n : ℕ) → q < 32 → r < 32 → height' (place q A r) ≡ height (place q A r) →
-        Reason J done height q A r n → Reason J done' height' q A r n
+    reason-carries : (q A r n : ℕ) → q < 32 → r < 32 → turn' (place q A r) ≡ turn (place q A r) →
+        Reason J done turn q A r n → Reason J done' turn' q A r n
     reason-carries q A r n ql rl same (Reason.by-given g e) = Reason.by-given g e
     reason-carries q A r n ql rl same (Reason.by-empty rank g e rule s l) = Reason.by-empty rank g e rule s l
     reason-carries q A r n ql rl same (Reason.by-unit rank X g e rule a) =
@@ -49,79 +61,88 @@ module _ (J : Job) (range : RulesInRange (J .rules)) where
 
   -- one step, which takes the pending place p
   module _ {v : Statuses} {p : ℕ} {v' : Statuses} (taken : Taken (J .rules) v p v')
-      (grown : Grown (J .rules) (Holds (J .given)) (J .states) v) {reasons : List ℕ}
-      (fit : ReasonsFit J v reasons) where
-    -- the heights after it: what was absent gets the next number
-    abbrev higher : ℕ → ℕ
-    higher i = cond (isAbsentAt v i) (suc (doneCount v)) (fit .height i)
+      (grown : Grown (J .rules) (Holds (J .given)) (J .states) v) {reasons : List ℕ} (fit : ReasonsFit J v reasons)
+      (reasons' : List ℕ) (reasons-taken : ReasonsTaken (J .rules) v p reasons reasons') where
+    -- what was there before keeps its turn
+    same-turn : (i : ℕ) → i < tableSize → isAbsentAt v i ≡ false → turnAt reasons' i ≡ turnAt reasons i
+    same-turn = turn-kept (J .rules) v p reasons reasons' reasons-taken
+
+    -- which is below the done count after the step
+    old-below : (i : ℕ) → i < tableSize → isAbsentAt v i ≡ false → turnAt reasons' i < doneCount v'
+    old-below i l old = omega (arith, same-turn i l old, fit .bounded i l old, taken-done-count taken)
 
     -- a premise of what comes in: done after the step, and there before
-    new-premise : (above : ℕ) → isAbsentAt v above ≡ true → (q X r : ℕ) → q < 32 → X < 64 → r < 32 →
-        doneWith v p q X r ≡ true → Premise (doneIn v') higher above q X r
-    new-premise above new q X r ql xl rl e =
-        let old = with-there taken q X r e in
+    new-premise : (above : ℕ) → turnAt reasons' above ≡ doneCount v' → (q X r : ℕ) → q < 32 → X < 64 → r < 32 →
+        doneWith v p q X r ≡ true → Premise (doneIn v') (turnAt reasons') above q X r
+    new-premise above turn q X r ql xl rl e =
         record {
           is-done = with-done-after taken q X r ql xl rl e;
-          lower = rw (old, new) (omega (arith, fit .bounded _ (omega arith) old));
+          earlier = rw turn (old-below (place q X r) (omega arith) (with-there taken q X r e));
         }
 
-    -- the reason of what comes in
-    new-reason : {ρ : Rule} {a A b middle : ℕ} (rank n : ℕ) → a < 32 → b < 32 → isAbsentAt v (place a A b) ≡ true →
-        J .given a A b ≡ false → RuleAt (J .rules) rank ρ → n ≡ reasonOf rank middle →
-        Consequent (doneWith v p) (fromState p) (symbolAt p) (toState p) ρ a A b middle →
-        Reason J (doneIn v') higher a A b n
-    new-reason rank n al bl new g rule e by-unit =
-        Reason.by-unit rank (symbolAt p) g e rule (new-premise _ new _ _ _ al (omega arith) bl (taken-with taken))
-    new-reason rank n al bl new g rule e (as-front {Z = Z} d) =
+    -- a reason of what comes in, by the rule that offers it
+    new-reason : {ρ : Rule} {a A b middle : ℕ} (rank n : ℕ) → a < 32 → b < 32 →
+        turnAt reasons' (place a A b) ≡ doneCount v' → J .given a A b ≡ false → RuleAt (J .rules) rank ρ →
+        n ≡ reasonOf rank middle → Consequent (doneWith v p) (fromState p) (symbolAt p) (toState p) ρ a A b middle →
+        Reason J (doneIn v') (turnAt reasons') a A b n
+    new-reason rank n al bl turn g rule e by-unit =
+        Reason.by-unit rank (symbolAt p) g e rule (new-premise _ turn _ _ _ al (omega arith) bl (taken-with taken))
+    new-reason rank n al bl turn g rule e (as-front {Z = Z} d) =
         Reason.by-pair rank (symbolAt p) Z (toState p) g e (omega arith) rule
-        (new-premise _ new _ _ _ al (omega arith) (omega arith) (taken-with taken))
-        (new-premise _ new _ _ _ (omega arith) (rule-range rule .2) bl d)
-    new-reason rank n al bl new g rule e (as-back {Y = Y} d) =
+        (new-premise _ turn _ _ _ al (omega arith) (omega arith) (taken-with taken))
+        (new-premise _ turn _ _ _ (omega arith) (rule-range rule .2) bl d)
+    new-reason rank n al bl turn g rule e (as-back {Y = Y} d) =
         let ql = from-state-below p (taken .below) in
         Reason.by-pair rank Y (symbolAt p) (fromState p) g e ql rule
-        (new-premise _ new _ _ _ al (rule-range rule .1) ql d)
-        (new-premise _ new _ _ _ ql (omega arith) bl (taken-with taken))
+        (new-premise _ turn _ _ _ al (rule-range rule .1) ql d)
+        (new-premise _ turn _ _ _ ql (omega arith) bl (taken-with taken))
 
-    offered-reason : (a A b : ℕ) → a < 32 → A < 32 → b < 32 → isAbsentAt v (place a A b) ≡ true →
-        1 ≤ offered (J .rules) v p a A b →
-        Reason J (doneIn v') higher a A b (offered (J .rules) v p a A b)
-    unfolding offered
-    offered-reason a A b al vl bl new o =
-        let f = least-offer-fits _ (fromState p) (symbolAt p) (toState p) 0 (J .rules) (empty 0) a A b o in
-        new-reason (f .0) _ al bl new
-        (not-true-false _ (λ d. true-and-false new (grown .has-given a A b al (omega arith) bl d)))
-        (f .2, refl) (f .4 ∙ omega arith) (f .3)
+    -- what comes in has the done count after the step as its turn, and a reason that fits
+    module _ (q A r : ℕ) (ql : q < 32) (al : A < 32) (rl : r < 32) (comes : comesIn (J .rules) v p q A r ≡ true) where
+      added : Added (getD reasons' (reasonPlace q A r) 0) (offered (J .rules) v p q A r) (doneCount v')
+      added = taken-added (J .rules) v p reasons reasons' reasons-taken taken (range .rule-count) q A r ql al rl comes
 
-    pub taken-reasons-fit :
-        (reasons' : List ℕ) → ReasonsTaken (J .rules) v p reasons reasons' → ReasonsFit J v' reasons'
+      added-turn : turnAt reasons' (place q A r) ≡ doneCount v'
+      added-turn = turn-at reasons' q A r (omega arith) rl ∙ rw lt-leb (added .turn-is)
+
+      added-reason : Reason J (doneIn v') (turnAt reasons') q A r (reasonIn (getD reasons' (reasonPlace q A r) 0))
+      unfolding offered
+      added-reason =
+          let (new, o) = and-split (isAbsentAt v (place q A r)) _ .0 comes in
+          let f =
+          least-offer-fits _ (fromState p) (symbolAt p) (toState p) 0 (J .rules) (empty 0) q A r (leb-true 1 _ o) in
+          new-reason (f .0) _ ql rl added-turn
+          (not-true-false _ (λ d. true-and-false new (grown .has-given q A r ql (omega arith) rl d)))
+          (f .2, refl) (added .reason-is ∙ f .4 ∙ omega arith) (f .3)
+
+    pub taken-reasons-fit : ReasonsFit J v' reasons'
     unfolding doneIn
-    taken-reasons-fit reasons' reasons-taken =
-        let count = taken-done-count taken in
-        let taken-there = pending-not-absent (v p) (taken .pending) in
+    taken-reasons-fit =
         record {
-          height = higher;
-          bounded = λ i l there. cases (isAbsentAt v i)
-              (λ new. rw new (omega arith))
-              (λ old. rw old (omega (arith, fit .bounded i l old)));
-          done-bounded = λ i l e.
-              let there : isAbsentAt v i ≡ false = cases (eqb i p)
-              (λ f. ap (isAbsentAt v) (eqb-true _ _ f) ∙ taken-there)
-              (λ f. done-not-absent (v i) (sym (done-others taken i l (eqb-false _ _ f)) ∙ e)) in
-              rw there (omega (arith, fit .bounded i l there));
+          bounded = by-parts (λ i. isAbsentAt v' i ≡ false → turnAt reasons' i ≤ doneCount v')
+              (λ q X r ql xl rl there. cases (isAbsentAt v (place q X r))
+              (λ new. cases (leb 32 X)
+              (λ t. rw (turn-at, t) (omega arith))
+              (λ t. omega (
+                arith,
+                added-turn q X r ql (leb-false 32 X t) rl (new-comes taken q X r ql xl rl new there),
+              )))
+              (λ old. omega (arith, old-below (place q X r) (omega arith) old)));
+          done-bounded = λ i l e. old-below i l
+              (cases (eqb i p)
+              (λ f. ap (isAbsentAt v) (eqb-true _ _ f) ∙ taken-there taken)
+              (λ f. done-not-absent (v i) (sym (done-others taken i l (eqb-false _ _ f)) ∙ e)));
           fits = λ q A r ql al rl there. cases (isAbsentAt v (place q A r))
-              (λ new. ⊎-elim (λ e. true-and-false new (ap (isAbsentAt v) e ∙ taken-there))
-              (⊎-elim
-              (λ e. true-and-false new e)
-              (λ o. rw (reasons-taken, new, le-leb 1 (offered (J .rules) v p q A r) o)
-              (offered-reason q A r ql al rl new o)))
-              (comes-from taken q A r ql (omega arith) rl there))
+              (λ new. added-reason q A r ql al rl (new-comes taken q A r ql (omega arith) rl new there))
               -- what was there before keeps its reason
               (λ old. rw (reasons-taken, old)
-              (reason-carries (doneIn v) (doneIn v') (fit .height) higher
-              (λ q X r ql xl rl d.
-              let old = done-not-absent (v (place q X r)) d in
-              (done-kept taken (place q X r) (omega arith) d, rw old))
-              q A r (getD reasons (reasonPlace q A r) 0) ql rl (rw old) (fit .fits q A r ql al rl old)));
+              (reason-carries (doneIn v) (doneIn v') (turnAt reasons) (turnAt reasons')
+              (λ q X r ql xl rl d. (
+                done-kept taken (place q X r) (omega arith) d,
+                same-turn (place q X r) (omega arith) (done-not-absent (v (place q X r)) d),
+              ))
+              q A r (reasonIn (getD reasons (reasonPlace q A r) 0)) ql rl (same-turn (place q A r) (omega arith) old)
+              (fit .fits q A r ql al rl old)));
           none = λ q A r ql al rl gone.
               let before : isAbsentAt v (place q A r) ≡ true =
               not-false-true _ (λ e. true-and-false gone (there-kept taken (place q A r) (omega arith) e)) in

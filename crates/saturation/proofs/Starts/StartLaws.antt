@@ -9,10 +9,9 @@ use Rattle.grammar.specs.Closure.{Closure}
 use Rattle.grammar.proofs.Counting.{count-none}
 use Rattle.job.specs.Job.{Job}
 use Rattle.saturation.specs.Table.{Lent, KeepsRest, tableSize, reasonsSize, place, reasonPlace, Status, Statuses}
-use Rattle.saturation.specs.Table.{isAbsentAt, isDoneAt, doneIn, statuses, givenReason, when}
+use Rattle.saturation.specs.Table.{isAbsentAt, isDoneAt, doneIn, statuses, givenReason, when, doneCount}
 use Rattle.saturation.specs.Start.{emptyReason, isEmptyAt, started}
 use Rattle.job.specs.Theorems.InRange.{InRange}
-use Rattle.saturation.specs.Theorems.Steps.{doneCount}
 use Rattle.saturation.proofs.Tables.Places.{by-parts}
 use Rattle.saturation.proofs.Tables.Each.{changed-keeps-rest}
 use Rattle.saturation.proofs.Tables.Layouts.{bytes, reasons, laid-at}

@@ -10,7 +10,7 @@ use Rattle.job.specs.Job.{Job}
 use Rattle.job.specs.Theorems.InRange.{RuleInRange}
 use Rattle.saturation.specs.Table.{Lent, lentOf, tableSize, reasonsSize, place, fromState, symbolAt, toState}
 use Rattle.saturation.specs.Table.{reasonState, reasonVariable, Statuses, saysPending, saysDone, doneIn, doneAt}
-use Rattle.saturation.specs.Table.{saysAbsent, byteStatus, statuses, lesser, each}
+use Rattle.saturation.specs.Table.{saysAbsent, byteStatus, statuses, lesser, entryOf, each}
 use Rattle.saturation.specs.Start.{startByte, startReason, started}
 use Rattle.saturation.specs.Step.{lowest, isFinished, offer, leastOffer, offered, comesIn, byteAfter}
 use Rattle.saturation.specs.Step.{reasonAfter, taking, step}
@@ -19,6 +19,7 @@ use Rattle.saturation.specs.Theorems.Steps.{LongTable}
 use Rattle.saturation.proofs.Tables.Each.{length-each, getD-each-0, take-each}
 use Rattle.saturation.proofs.Tables.Lowest.{lowest-cong}
 use Rattle.saturation.proofs.Tables.RuleRanges.{RulesInRange, pairs-in-range}
+use Rattle.saturation.proofs.Steps.Turns.{turn-agree}
 use Rattle.saturation.proofs.Steps.StepLaws.{said, step-finished, step-taking}
 
 -- what is offered depends on done transitions in range
@@ -76,7 +77,8 @@ module _ (v w : Statuses) (agree : (p : ℕ) → p < tableSize → v p ≡ w p) 
       reason-agree k old h =
           ap₂ (λ c n. cond (leb reasonsSize k) old (cond c n old))
           (comes-in-agree (reasonState k) (reasonVariable k) (toState k) (omega arith) (omega arith) (omega arith))
-          (offered-agree (reasonState k) (reasonVariable k) (toState k) (omega arith) (omega arith))
+          (ap₂ entryOf (offered-agree (reasonState k) (reasonVariable k) (toState k) (omega arith) (omega arith))
+          (turn-agree v w agree p))
 
 -- the first 65,536 bytes and 32,768 reasons
 abbrev pub first : Lent → Lent
@@ -128,14 +130,14 @@ module _ (ρs : List Rule) (range : RulesInRange ρs) where
   pub steps-first : (n : ℕ) (m : Lent) → first (steps ρs n m) ≡ steps ρs n (first m)
   unfolding steps
   steps-first zero m = refl
-  steps-first (suc n) m = steps-first n _ ∙ ap (steps ρs n) (step-first m)
+  steps-first (suc n) m = steps-first n (step ρs m) ∙ ap (steps ρs n) (step-first m)
 
   pub steps-made-first : (n : ℕ) (m : Lent) → stepsMade ρs n m ≡ stepsMade ρs n (first m)
   unfolding stepsMade
   steps-made-first zero m = refl
   steps-made-first (suc n) m =
       ap₂ (λ f k. cond f 0 (suc k)) (finished-first (m .table))
-      (steps-made-first n _ ∙ ap (stepsMade ρs n) (step-first m))
+      (steps-made-first n (step ρs m) ∙ ap (stepsMade ρs n) (step-first m))
 
   meetings-done-first : (m : Lent) → meetingsDone ρs (said m) ≡ meetingsDone ρs (said (first m))
   meetings-done-first m = meetings-agree (said m) _ (said-first (m .table)) ρs range

@@ -5,10 +5,10 @@ use Rattle.grammar.proofs.Basics.{_≡_, refl, _∙_, ap, ⊎-elim, inl, inr, _
 use Rattle.grammar.proofs.Basics.{zero-add, suc-add, arith, cases}
 use Rattle.grammar.specs.Rule.{Rule}
 use Rattle.grammar.proofs.Counting.{count-bound, count-equal, count-all}
-use Rattle.saturation.specs.Table.{Lent, KeepsRest, tableSize, Statuses, isDoneAt, statuses}
+use Rattle.saturation.specs.Table.{Lent, KeepsRest, tableSize, Statuses, isDoneAt, statuses, doneCount}
 use Rattle.saturation.specs.Step.{lowest, isFinished, taking, step}
 use Rattle.saturation.specs.Advance.{steps, stepsMade}
-use Rattle.saturation.specs.Theorems.Steps.{LongTable, doneCount}
+use Rattle.saturation.specs.Theorems.Steps.{LongTable}
 use Rattle.saturation.proofs.Tables.Statuses.{done-not-pending}
 use Rattle.saturation.proofs.Tables.Lowest.{unfinished-below, lowest-is-pending, none-pending-finished}
 use Rattle.saturation.proofs.Steps.Taken.{Taken, taken-done-count}

@@ -6,9 +6,8 @@ use Rattle.grammar.proofs.Basics.{and-left, true-and-false}
 use Rattle.grammar.specs.Rule.{Rule}
 use Rattle.grammar.proofs.Counting.{count-one-more}
 use Rattle.saturation.specs.Table.{tableSize, place, fromState, symbolAt, toState, reasonPlace, Status, Statuses}
-use Rattle.saturation.specs.Table.{saysAbsent, saysDone, isAbsentAt, isPendingAt, isDoneAt}
-use Rattle.saturation.specs.Step.{offered, comesIn, statusAfter}
-use Rattle.saturation.specs.Theorems.Steps.{doneCount}
+use Rattle.saturation.specs.Table.{saysAbsent, saysDone, isAbsentAt, isPendingAt, isDoneAt, doneCount, entryOf}
+use Rattle.saturation.specs.Step.{offered, comesIn, statusAfter, turnOf}
 use Rattle.saturation.proofs.Tables.Places.{place-of-parts, from-state-place, symbol-at-place, to-state-place}
 use Rattle.saturation.proofs.Tables.Statuses.{absent-not-done, done-not-absent, pending-not-done}
 
@@ -23,7 +22,7 @@ abbrev pub ReasonsTaken : List Rule → Statuses → ℕ → List ℕ → List �
 ReasonsTaken ρs v p reasons reasons' =
     (q A r : ℕ) → q < 32 → A < 32 → r < 32 →
     getD reasons' (reasonPlace q A r) 0
-    ≡ cond (comesIn ρs v p q A r) (offered ρs v p q A r) (getD reasons (reasonPlace q A r) 0)
+    ≡ cond (comesIn ρs v p q A r) (entryOf (offered ρs v p q A r) (turnOf v p)) (getD reasons (reasonPlace q A r) 0)
 
 -- a status after the step, by cases
 module _ (s : Status) (is-taken offers : Bool) where

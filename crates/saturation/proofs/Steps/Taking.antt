@@ -6,8 +6,8 @@ use Rattle.grammar.proofs.Basics.{length, ltb-false, ltb-true, le-leb, lt-leb, 
 use lib.ListN.{List·getD-eq-default}
 use Rattle.grammar.specs.Rule.{Rule}
 use Rattle.saturation.specs.Table.{Lent, KeepsRest, tableSize, reasonsSize, fromState, symbolAt, toState, Status}
-use Rattle.saturation.specs.Table.{isPendingAt, isDoneAt, byteStatus, statuses}
-use Rattle.saturation.specs.Step.{comesIn, offered, statusAfter, taking}
+use Rattle.saturation.specs.Table.{isPendingAt, isDoneAt, byteStatus, statuses, entryOf}
+use Rattle.saturation.specs.Step.{comesIn, offered, statusAfter, turnOf, taking}
 use Rattle.saturation.proofs.Tables.Each.{getD-each-0, changed-keeps-rest}
 use Rattle.saturation.proofs.Tables.Layouts.{reasons, laid-at}
 use Rattle.saturation.proofs.Steps.Taken.{Taken, ReasonsTaken, after-done}
@@ -71,4 +71,5 @@ module _ (ρs : List Rule) (p : ℕ) (m : Lent) where
   pub taking-reasons : reasonsSize ≤ length (m .reasons) → ReasonsTaken ρs v p (m .reasons) (taking ρs p m .reasons)
   unfolding taking
   taking-reasons long q A r =
-      laid-at reasons (λ q A r old. cond (comesIn ρs v p q A r) (offered ρs v p q A r) old) (m .reasons) q A r long
+      laid-at reasons (λ q A r old. cond (comesIn ρs v p q A r) (entryOf (offered ρs v p q A r) (turnOf v p)) old)
+      (m .reasons) q A r long

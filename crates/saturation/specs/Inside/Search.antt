@@ -1,10 +1,15 @@
--- The search for the lowest pending place, by rows of 32 places and blocks of 64 rows. Assumes nothing.
+-- The search for the lowest pending place, by rows of 32 places and blocks of 64 rows, and the count of done places,
+-- by parts. Assumes nothing.
 use mathlib.Core.Path.{_≡_}
 use Prim.Native.Nat.{ℕ, _+_, _*_, _≤_, _<_}
 use mathlib.Core.Bool.{true, false}
 use mathlib.Core.List.{List}
 use lib.ListN.{getD}
 use Rattle.saturation.specs.Table.{tableSize, isPending}
+
+-- the bytes of a part whose done places are counted at a time
+abbrev pub partSize : ℕ
+partSize = 128
 
 -- the flags of the rows of a table, and of its blocks: 0 says that nothing is pending there
 abbrev pub RowsIdle : List ℕ → List ℕ → Type 0

@@ -59,6 +59,7 @@ give-spec =
     (λ c. search needs)
     (λ c. search needs)
     (λ c. search needs)
+    (λ c. search needs)
     (λ c. search needs) slice-write-reasons
     (λ c. search needs)
     (λ c. search needs) returns-3)

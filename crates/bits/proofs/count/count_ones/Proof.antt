@@ -1,22 +1,13 @@
 -- `count::count_ones` meets its contract. The loop's invariant: the sum counts the done bits of the first k rows.
 -- Assumes nothing.
-use Rattle.grammar.proofs.Basics.{_≡_, _∙_, sym, ap, refl, Bool, List, ℕ, _<_, _≤_, _+_, _-_, _*_, suc, zero, arith}
-use Rattle.grammar.proofs.Basics.{add-zero}
-use native.Mathlib.Nat.{add-suc}
+use Rattle.grammar.proofs.Basics.{_≡_, _∙_, sym, ap, refl, List, ℕ, _<_, _≤_, _+_, _-_, _*_, arith}
 use Rattle.grammar.specs.Counting.{count}
-use Rattle.grammar.proofs.Counting.{count-cong, count-bound}
+use Rattle.grammar.proofs.Counting.{count-cong, count-apart, count-bound}
 use lib.Count.{ones, ones-le}
 use Rattle.bits.specs.BitTable.{bitOf, bitAt, doneHalf, doneBits}
 use Rattle.bits.proofs.BitLaws.{ones-counted}
 use Rattle.bits.proofs.count.count_ones.Statement.{statement}
 use Rattle.bits.proofs.count.count_ones.Tie as tie
-
--- a count in two parts
-count-apart : (t : ℕ → Bool) (m n : ℕ) → count t (m + n) ≡ count t m + count (λ i. t (m + i)) n
-unfolding count
-count-apart t m zero = rw (add-zero m, add-zero (count t m))
-count-apart t m (suc n) =
-    rw (add-suc m n) (omega (arith, count-apart t m n))
 
 -- the ones of one more row
 row-counted : (bits : List ℕ) (k w : ℕ) → w < 4294967296 →

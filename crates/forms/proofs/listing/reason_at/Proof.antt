@@ -7,8 +7,8 @@ use Rattle.forms.proofs.listing.reason_at.Tie as tie
 returns : tie.Need-returns
 returns c = rw (sym (c .before .terminal-at .ensures) ∙ c .if1 .taken)
 
-shared-slice-read-result : tie.Need-shared-slice-read-result
-shared-slice-read-result c =
+shared-slice-read-entry : tie.Need-shared-slice-read-entry
+shared-slice-read-entry c =
     let t = c .before .before in
     let s = t .before .before in
     let below = leb-false 32 (symbolAt (s .args .p)) (sym (t .terminal-at .ensures) ∙ c .before .if1 .left) in
@@ -19,4 +19,4 @@ returns-2 c = rw (sym (c .before .before .terminal-at .ensures) ∙ c .before .i
 
 pub reason-at-spec : {M : Type 1} → statement M
 reason-at-spec = tie.close (tie.spec (omega arith) returns (omega arith) (omega arith) (omega arith) (omega arith)
-    (omega arith) shared-slice-read-result returns-2)
+    (omega arith) shared-slice-read-entry (omega arith) returns-2)

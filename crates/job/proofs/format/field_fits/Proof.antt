@@ -4,4 +4,7 @@ use Rattle.job.proofs.format.field_fits.Statement.{statement}
 use Rattle.job.proofs.format.field_fits.Tie as tie
 
 pub field-fits-spec : {M : Type 1} → statement M
-field-fits-spec = tie.close (tie.spec (λ c κs. search needs) (λ c κs. search needs) (λ c. cc))
+field-fits-spec =
+    tie.close
+    (tie.spec (λ c κs. search needs) (λ c κs. search needs)
+    (λ c. rw (← c .before .field-class .ensures) (c .in-class .ensures)))

@@ -7,7 +7,7 @@ use Rattle.saturation.proofs.begin.begin.Statement.{statement}
 use Rattle.saturation.proofs.begin.begin.Tie as tie
 
 pub begin-spec : {M : Type 1} → statement M
-begin-spec = tie.close (tie.spec (λ c κs. search needs) (λ c κs. search needs) (λ c κs. search needs)
-    (λ c κs. search needs) (λ c κs. (omega arith, search (records-fit, needs)))
-    (λ c κs. ((omega arith, omega arith, search (few-states, needs)), search (few-rules, keys-fit, needs)))
-    (λ c. omega arith) (λ c. omega arith) (λ c. search (states-counted, begun, needs)))
+begin-spec = tie.close (tie.spec (λ c κs. search needs) (λ c κs. search) (λ c κs. search)
+    (λ c κs. search) (λ c κs. (omega arith, search (records-fit, needs)))
+    (λ c κs. ((omega arith, omega arith, search few-states), (search few-rules, search keys-fit)))
+    (λ c. omega arith) (λ c. omega arith) (λ c. search (states-counted, begun)))

@@ -16,8 +16,8 @@ pub give-spec : {M : Type 1} → statement M
 give-spec =
     tie.close
     (tie.spec
-    (λ c. search (not-given, needs))
-    (λ c. search needs)
+    (λ c. search not-given)
+    (λ c. omega arith)
     (λ c. search needs)
     (λ c. search needs)
     (λ c. search needs)
@@ -29,13 +29,14 @@ give-spec =
     let s = e .before .before .before .before in
     omega (arith, s .pre .1 (e .if1 .left), s .pre .0))
     (λ c κs. search needs)
+    (λ c. search)
+    (λ c. search (terminal-given, arith))
     (λ c. search needs)
-    (λ c. search (terminal-given, needs))
     (λ c. search needs)
     (λ c. search needs)
     (λ c. search needs)
     (λ c. search needs)
     (λ c. search needs) slice-write-reasons
+    (λ c. search)
     (λ c. search needs)
-    (λ c. search needs)
-    (λ c. search (variable-given, needs)))
+    (λ c. search variable-given))

@@ -29,6 +29,6 @@ give-all-spec =
     (λ c. omega arith)
     (λ c. omega arith)
     (λ c. search (giving-goes-on, needs))
+    (λ c. search)
     (λ c. search needs)
-    (λ c. search needs)
-    (λ c. search (giving-ends, needs)))
+    (λ c. search giving-ends))

@@ -16,8 +16,8 @@ abbrev μ-loop : tie.MeasureT-loop
 
 pub loop-all-spec : {M : Type 1} → statement M
 loop-all-spec = tie.close (tie.spec Inv-loop μ-loop (λ c κs. search needs) (λ c. search (no-loop, needs))
-    (λ c. search needs) (λ c. search needs) (λ c. search needs) (λ c. looped-begins _ _ _ _) (λ c. search needs)
-    (λ c. search needs) (λ c. search needs) (λ c. search needs) (λ c κs. search (loop-place, needs))
-    (λ c κs. (omega arith, search (loop-place, needs))) (λ c. omega arith) (λ c. omega arith)
-    (λ c. search (looped-goes-on, needs)) (λ c. search needs) (λ c. search needs)
-    (λ c. search (looped-ends, needs)))
+    (λ c. search needs) (λ c. search needs) (λ c. omega arith) (λ c. looped-begins _ _ _ _) (λ c. omega arith)
+    (λ c. search needs) (λ c. search needs) (λ c. search needs) (λ c κs. search loop-place)
+    (λ c κs. (omega arith, (search loop-place, search))) (λ c. omega arith) (λ c. omega arith)
+    (λ c. search (looped-goes-on, needs)) (λ c. search) (λ c. search)
+    (λ c. search looped-ends))

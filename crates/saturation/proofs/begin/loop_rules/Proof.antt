@@ -28,7 +28,7 @@ loop-rules-spec =
     (omega arith, (p .0 .2, p .1 .2 _ (omega arith), omega arith)))
     (λ c. omega arith)
     (λ c. omega arith)
-    (λ c. search (rules-go-on, needs))
+    (λ c. search rules-go-on)
     (λ c. search needs)
     (λ c. search needs)
     (λ c. search (rules-end, needs)))

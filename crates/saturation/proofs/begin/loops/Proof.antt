@@ -4,4 +4,5 @@ use Rattle.saturation.proofs.begin.loops.Statement.{statement}
 use Rattle.saturation.proofs.begin.loops.Tie as tie
 
 pub loops-spec : {M : Type 1} → statement M
-loops-spec = tie.close (tie.spec (λ c κs. search needs) (λ c. search needs) (λ c. search needs) (λ c. search needs))
+loops-spec = tie.close (tie.spec (λ c κs. (search, (search, search needs, search)))
+    (λ c. search) (λ c. search) (λ c. search needs))

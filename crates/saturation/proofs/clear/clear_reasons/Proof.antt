@@ -1,5 +1,5 @@
 -- `clear::clear_reasons` meets its contract. The loop's invariant: the first i reasons are cleared. Assumes nothing.
-use Rattle.grammar.proofs.Basics.{_≡_, refl, _≤_, _-_, add-one, arith, length, length-set, needs}
+use Rattle.grammar.proofs.Basics.{_≡_, refl, _≤_, _-_, add-one, arith, length, length-set}
 use Rattle.job.specs.Clear.{cleared}
 use Rattle.job.proofs.Clearing.{cleared-more}
 use Rattle.saturation.proofs.clear.clear_reasons.Statement.{statement}
@@ -26,5 +26,5 @@ clear-reasons-spec =
     (λ c.
     let l = c .before .loop in
     (omega arith, simp length-set (l .inv .1), rw (l .inv .2, add-one) (cleared-more (l .i) _ (omega arith))))
-    (λ c. search needs)
+    (λ c. omega arith)
     (λ c. let e : c .before .loop .i ≡ 32768 = omega arith in rw e at (c .before .loop .inv .2)))

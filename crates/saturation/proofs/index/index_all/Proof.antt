@@ -39,4 +39,4 @@ returns c =
 pub index-all-spec : {M : Type 1} → statement M
 index-all-spec = tie.close (tie.spec Inv-loop μ-loop (λ c. search (indexed-none, arith)) (λ c. search needs)
     (λ c. omega arith) (λ c. omega arith) index-rule-requires (λ c. omega arith) (λ c. omega arith) loop-again
-    (λ c. search needs) (λ c. search needs) returns)
+    (λ c. search) (λ c. search) returns)

@@ -42,14 +42,14 @@ index-rule-spec =
     .before .before .before in
     two-appended _ _ (a .before .before .before .before .before .before .unpack .ensures) (a .append .ensures) (search)
     (search) (search))
-    (λ c. search needs)
-    (λ c. search needs)
+    (λ c. search)
+    (λ c. search)
     (λ c.
     let a = c .before .before .before .before .before .before .before .before in
     twin-appended _ _ (a .before .before .before .before .before .before .unpack .ensures) (a .append .ensures)
     (search) (search))
-    (λ c. search needs)
-    (λ c. search needs)
+    (λ c. search)
+    (λ c. search)
     (λ c.
     let a = c .before .before .before .before .before .before in
     one-appended _ _ (a .before .before .before .before .before .before .unpack .ensures) (a .append .ensures) (search)

@@ -53,6 +53,6 @@ advance-spec =
     let e = c .before .before .before .before .before .before .before .before in
     let p = machine-passed _ _ _ (e .before .before .machine-check .ensures) (e .if1 .left) in
     omega (arith, p .long))
-    (λ c. search needs)
-    (λ c. search needs)
+    (λ c. search)
+    (λ c. search)
     (λ c. search (advances, needs)))

@@ -6,6 +6,6 @@ use Rattle.saturation.proofs.operations.machine_check.Statement.{statem
 use Rattle.saturation.proofs.operations.machine_check.Tie as tie
 
 pub machine-check-spec : {M : Type 1} → statement M
-machine-check-spec = tie.close (tie.spec (λ c. search (short-table, needs)) (λ c. search (short-reasons, needs))
+machine-check-spec = tie.close (tie.spec (λ c. search short-table) (λ c. search (short-reasons, needs))
     (λ c κs. search needs) (λ c κs. search needs)
     (λ c. rw (c .before .full-limits .ensures) at (c .check .ensures) ∙ search (long-enough, needs)))

@@ -33,6 +33,6 @@ start-spec =
     let e = c .before .before in
     let p = machine-passed _ _ _ (e .before .before .machine-check .ensures) (e .if1 .left) in
     (p .long, p .long-reasons, p .ok))
-    (λ c. search needs)
-    (λ c. search needs)
+    (λ c. search)
+    (λ c. search)
     (λ c. search (starts, needs)))

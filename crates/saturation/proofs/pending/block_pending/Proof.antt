@@ -32,7 +32,7 @@ block-pending-spec =
     (λ c. omega arith)
     (λ c. search (rows-none, needs))
     (λ c. omega arith)
-    (λ c κs. search needs)
+    (λ c κs. (search needs, search needs, search needs))
     (λ c. rows-found _ _ _ _ _ _ _ (omega arith) (c .if1 .taken)
     (rows-next _ _ _ _ _ _ _ (c .before .before .before .before .loop .inv .1)
     (c .before .flagged-row-pending .ensures)))

@@ -8,5 +8,5 @@ use Rattle.saturation.proofs.pending.flagged_block_pending.Tie as tie
 ruleset ways = (block-skipped, block-place, flags-kept, flags-cleared, needs)
 
 pub flagged-block-pending-spec : {M : Type 1} → statement M
-flagged-block-pending-spec = tie.close (tie.spec (λ c. search needs) (λ c. search ways) (λ c κs. search needs)
+flagged-block-pending-spec = tie.close (tie.spec (λ c. search) (λ c. search ways) (λ c κs. search)
     (λ c. search needs) (λ c. search ways) (λ c. search ways))

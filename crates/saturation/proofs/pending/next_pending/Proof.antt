@@ -1,6 +1,6 @@
 -- `pending::next_pending` meets its contract. The loop's invariant: the blocks passed so far are searched in vain, and
 -- the flags are true. Assumes nothing.
-use Rattle.grammar.proofs.Basics.{_≡_, _≤_, _-_, _*_, arith, needs}
+use Rattle.grammar.proofs.Basics.{_≡_, _≤_, _-_, _*_, arith}
 use Rattle.saturation.specs.Table.{tableSize}
 use Rattle.saturation.specs.Inside.Search.{Flags, LowestIn}
 use Rattle.saturation.proofs.Searches.Searching.{lowest-none, lowest-next, lowest-less, lowest-found}
@@ -37,7 +37,7 @@ next-pending-spec =
     tie.close
     (tie.spec Inv-loop μ-loop
     (λ c. (omega arith, lowest-none _ _ _ (omega arith), c .before .pre .1))
-    (λ c κs. search needs) returns
+    (λ c κs. search) returns
     (λ c. omega arith)
     (λ c. omega arith) loop-again
     (λ c.

@@ -21,4 +21,4 @@ returns-2 c =
 
 pub offer-spec : {M : Type 1} → statement M
 offer-spec = tie.close (tie.spec (λ c. search needs) (λ c κs. search needs) returns (λ c κs. search needs)
-    (λ c. omega arith) (λ c. omega arith) (λ c. search needs) (λ c. search needs) returns-2)
+    (λ c. omega arith) (λ c. omega arith) (λ c. search) (λ c. search needs) returns-2)
