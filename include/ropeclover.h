@@ -3,7 +3,8 @@
  * A job holds a grammar and a nondeterministic automaton. The library adds to the automaton's transitions those that the rules allow, until
  * nothing changes: where A -> X or A -> X Y is a rule and its right side leads from state q to state r, the transition (q, A, r) is added; where
  * A -> empty is a rule, (q, A, q). Then a string of symbols, a form, leads from the initial state to a final one if, and only if, it derives a
- * string that the given automaton reads. The library also tells which symbols are useless, whether the language is empty and whether it grows.
+ * string that the given automaton reads. The library also tells which symbols are useless, whether the language is empty and whether it grows, and
+ * it writes a grammar without its useless rules, in a spelling that does not depend on how the job spells it.
  *
  * Platform: x86-64 Linux. Link with -lropeclover (pkg-config ropeclover).
  *
@@ -154,6 +155,9 @@ extern "C" {
 #define ROPECLOVER_LONG_RECORD_BYTES 12
 #define ROPECLOVER_BODY_SYMBOLS 8
 
+/* The longest clean copy: an S record and ROPECLOVER_RULES rules. */
+#define ROPECLOVER_COPY_BYTES 1028
+
 /* Room for every function's answer. */
 #define ROPECLOVER_ANSWER_NUMBERS 5
 
@@ -174,12 +178,12 @@ enum ropeclover_refusal {
     ROPECLOVER_SECOND = 6,              /* a second S or a second I */
     ROPECLOVER_TOO_MANY_RULES = 7,      /* the 257th rule */
     ROPECLOVER_NO_START = 8,            /* no S record; the place is the number of records */
-    ROPECLOVER_NO_INITIAL = 9,          /* no I record; the place is the number of records. Never by ropeclover_verdicts */
+    ROPECLOVER_NO_INITIAL = 9,          /* no I record; the place is the number of records. Never by ropeclover_verdicts and ropeclover_clean */
     ROPECLOVER_FORM_TOO_LONG = 12,      /* over ROPECLOVER_FORM_SYMBOLS; the place is the form's length */
     ROPECLOVER_NO_SYMBOL = 11,          /* a byte of the form is over 63; the place is its position */
     ROPECLOVER_LISTING_TOO_SHORT = 13,  /* the place is the number of listing records needed. Only by ropeclover_explain */
-    ROPECLOVER_JOB_TOO_SHORT = 13,      /* the place is the number of records needed. Only by ropeclover_binarize, as the next two */
-    ROPECLOVER_TOO_FEW_VARIABLES = 14,  /* the record takes more variables than are free */
+    ROPECLOVER_JOB_TOO_SHORT = 13,      /* the place is the number of records needed. Only by ropeclover_binarize and ropeclover_clean */
+    ROPECLOVER_TOO_FEW_VARIABLES = 14,  /* the record takes more variables than are free. Only by ropeclover_binarize, as the next */
     ROPECLOVER_ILL_PADDED = 15          /* a length over ROPECLOVER_BODY_SYMBOLS, or a padding or closing byte that is not 0 */
 };
 
@@ -258,6 +262,17 @@ void ropeclover_verdicts(const uint8_t *job, size_t job_len, uint8_t *table, siz
  * any case; then again on each record 14, and for each record written for it 5, where it stands already among those written, and 7, where it is the
  * 257th rule of them; 8 and 9, with the number of records read; 2 for a job written of over ROPECLOVER_JOB_BYTES, with its length; 13. */
 void ropeclover_binarize(const uint8_t *text, size_t text_len, uint8_t *job, size_t job_len, uint64_t answer[3]);
+
+/* Writes the clean copy of a job: an S record, then the rules all of whose symbols have the code ROPECLOVER_USEFUL, by their ranks. The useful
+ * variables are numbered anew: the lowest is 0, the next 1, and so on; terminals stay as they are. If the language is empty, no symbol is useful,
+ * and the copy is the record S 0 0 0. A copy has no T, I or F records, and the job need not have an I record.
+ *
+ * The copy is a job that ropeclover_verdicts accepts, and its start symbol derives the strings of terminals that the job's derives. A copy of the
+ * copy is the same bytes. So are the copies of two jobs that have the same rules and the same start symbol, however their records are ordered and
+ * whatever their T, I and F records are. A buffer of ROPECLOVER_COPY_BYTES is always long enough. All this is proved.
+ *
+ * The buffer past the copy is left as it was. 13 is the last check. answer[2]: the number of records written. */
+void ropeclover_clean(const uint8_t *job, size_t job_len, uint8_t *out, size_t out_len, uint64_t answer[3]);
 
 /* The record that the job is refused for by 3 to 7, as a part of the job. answer[0]: its offset in bytes; answer[1]: its length, 4; both are 0
  * where there is none. (This answer has no refusal.) */

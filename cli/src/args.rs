@@ -28,6 +28,7 @@ pub enum Command {
     Assemble(Assemble),
     Disassemble(Disassemble),
     Binarize(Binarize),
+    Clean(Clean),
     Completions(Completions),
 }
 
@@ -138,6 +139,19 @@ pub struct Binarize {
     /// A text or a long job
     pub file: Option<PathBuf>,
     /// Write the job's text, with names, instead of its bytes
+    #[arg(long)]
+    pub text: bool,
+}
+
+/// Write a job without its useless rules, in one spelling
+#[derive(Debug, clap::Args)]
+#[command(after_help = "\
+The copy is the start symbol and the rules that are of use, sorted, with their variables numbered from 0. T, I and F records are left out. What \
+is left out is told on standard error.")]
+pub struct Clean {
+    /// A job or its text
+    pub file: Option<PathBuf>,
+    /// Write the copy's text, with names, instead of its bytes
     #[arg(long)]
     pub text: bool,
 }

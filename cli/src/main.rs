@@ -26,6 +26,7 @@ fn run(command: &Command) -> Result<(), Failure> {
         Command::Assemble(options) => commands::assemble(options),
         Command::Disassemble(options) => commands::disassemble(options),
         Command::Binarize(options) => commands::binarize(options),
+        Command::Clean(options) => commands::clean(options),
         Command::Completions(options) => commands::completions(options),
     }
 }

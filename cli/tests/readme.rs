@@ -49,6 +49,15 @@ fn the_rules_that_a_long_one_becomes() {
     assert!(README.contains(&indented(line.split(" #").next().unwrap().trim_end())));
 }
 
+#[test]
+fn what_a_clean_copy_leaves_out() {
+    let ran = run(&["clean", "--text"], RADIO_TEXT.as_bytes());
+    assert!(
+        README.contains(&indented(&ran.stderr)) && README.contains("    ropeclover clean --text examples/radio.txt\n")
+    );
+    assert_eq!(run(&["codes"], ran.stdout.as_bytes()).stdout.lines().next(), Some("useful: 15"));
+}
+
 /// The first line of the codes of a text.
 fn useful(text: &str) -> String {
     run(&["codes"], text.as_bytes()).stdout.lines().next().unwrap().into()

@@ -32,6 +32,8 @@ fn a_full_device_is_reported() {
         &["nightly"],
         &["binarize"],
         &["binarize", "--text"],
+        &["clean"],
+        &["clean", "--text"],
         &["completions", "bash"],
         &["--help"],
         &["explain", "--help"],

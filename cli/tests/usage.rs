@@ -17,6 +17,7 @@ fn help_and_version() {
         "assemble",
         "disassemble",
         "binarize",
+        "clean",
         "completions",
         "Exit status: 0",
         "ropeclover-report",
@@ -24,7 +25,9 @@ fn help_and_version() {
     ] {
         assert!(help.stdout.contains(part), "{part}");
     }
-    for command in ["report", "codes", "explain", "nightly", "assemble", "disassemble", "binarize", "completions"] {
+    for command in
+        ["report", "codes", "explain", "nightly", "assemble", "disassemble", "binarize", "clean", "completions"]
+    {
         let help = run(&[command, "--help"], b"");
         assert_eq!(help.status, Some(0));
         assert!(help.stdout.contains(&format!("Usage: ropeclover {command}")), "{}", help.stdout);
@@ -59,6 +62,8 @@ fn bad_words_end_with_status_2() {
         &["nightly", "--seed", "x"],
         &["nightly", "--update"],
         &["binarize", "a", "b"],
+        &["clean", "a", "b"],
+        &["clean", "--format", "json"],
         &["completions", "sh"],
     ] {
         let ran = run(words, b"");
@@ -97,7 +102,7 @@ fn completions_know_the_subcommands() {
     for shell in ["bash", "zsh", "fish"] {
         let ran = run(&["completions", shell], b"");
         assert_eq!(ran.status, Some(0));
-        for word in ["nightly", "baseline", "binarize", "turns"] {
+        for word in ["nightly", "baseline", "binarize", "turns", "clean"] {
             assert!(ran.stdout.contains(word), "{word} for {shell}");
         }
     }

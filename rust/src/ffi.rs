@@ -81,5 +81,6 @@ extern "C" {
     );
     pub fn ropeclover_done_count(bits: *const u8, bits_len: usize, answer: *mut u64);
     pub fn ropeclover_binarize(text: *const u8, text_len: usize, job: *mut u8, job_len: usize, answer: *mut u64);
+    pub fn ropeclover_clean(job: *const u8, job_len: usize, out: *mut u8, out_len: usize, answer: *mut u64);
     pub fn ropeclover_show(job: *const u8, job_len: usize, answer: *mut u64);
 }

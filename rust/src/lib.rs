@@ -51,14 +51,15 @@
 //! assert_eq!((refusal.number(), refusal.place()), (1, 9));
 //! ```
 //!
-//! The seven functions [`start`], [`advance`], [`ask`], [`explain`], [`verdicts`], [`show_refused`] and [`binarize`] are the library's, on lent
-//! memory; [`Workspace`] owns such memory and knows what it holds. [`start_bits`], [`advance_bits`], [`ask_bits`] and [`done_count`] are the
+//! The eight functions [`start`], [`advance`], [`ask`], [`explain`], [`verdicts`], [`show_refused`], [`binarize`] and [`clean`] are the library's, on
+//! lent memory; [`Workspace`] owns such memory and knows what it holds. [`start_bits`], [`advance_bits`], [`ask_bits`] and [`done_count`] are the
 //! library's for a table in a quarter of the memory. [`text`] reads and writes jobs as text. [`long`] is for rules with more than two symbols in
 //! their bodies.
 #![deny(missing_docs)]
 
 mod bits;
 mod calls;
+mod clean;
 mod entry;
 mod ffi;
 pub mod format;
@@ -74,6 +75,7 @@ mod workspace;
 
 pub use bits::{advance_bits, ask_bits, done_count, start_bits};
 pub use calls::{advance, ask, binarize, explain, show_refused, start, verdicts, Advanced, Explained, Verdicts};
+pub use clean::{clean, cleaned, CleanCopy, LeftOut};
 pub use entry::{reason_of, turn_of};
 pub use refusal::{Buffer, Refusal};
 pub use saturation::{Finished, Started};
@@ -163,3 +165,12 @@ pub const LONG_JOB_BYTES: usize = 49_152;
 /// assert!(long::rule(0, &[32; BODY_SYMBOLS]).is_some() && long::rule(0, &[32; BODY_SYMBOLS + 1]).is_none());
 /// ```
 pub const BODY_SYMBOLS: usize = 8;
+
+/// The longest clean copy in bytes: an S record and 256 rules.
+///
+/// ```
+/// let rules = (0..=255).flat_map(|n| [b'P', 0, 32 + n / 16, 32 + n % 16]);
+/// let job: Vec<u8> = b"S\0\0\0".iter().copied().chain(rules).collect();
+/// assert_eq!(ropeclover::clean(&job, &mut [0; ropeclover::COPY_BYTES]), Ok(257));
+/// ```
+pub const COPY_BYTES: usize = 1_028;

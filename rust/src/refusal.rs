@@ -133,7 +133,7 @@ pub enum Refusal {
         /// The number, from 0, of the record that it is written for.
         record: u64,
     },
-    /// 13, of a long job: the job written does not fit into the lent buffer.
+    /// 13, by [`binarize`](crate::binarize) and [`clean`](crate::clean): the job written does not fit into the lent buffer.
     JobTooShort {
         /// The records needed, 4 bytes each.
         records: u64,
@@ -194,6 +194,20 @@ impl Refusal {
             (2, bytes) => Refusal::WrittenTooLong { bytes },
             (5, record) => Refusal::WrittenTwice { record },
             (7, record) => Refusal::TooManyWritten { record },
+            (13, records) => Refusal::JobTooShort { records },
+            (number, place) => Refusal::new(number, place),
+        }
+    }
+
+    /// The refusal of a number and a place by [`clean`](crate::clean), which writes a job and no listing.
+    ///
+    /// ```
+    /// use ropeclover::Refusal;
+    /// assert_eq!(Refusal::of_clean(13, 2), Refusal::JobTooShort { records: 2 });
+    /// assert_eq!(Refusal::of_clean(1, 9), Refusal::new(1, 9));
+    /// ```
+    pub fn of_clean(number: u64, place: u64) -> Self {
+        match (number, place) {
             (13, records) => Refusal::JobTooShort { records },
             (number, place) => Refusal::new(number, place),
         }
@@ -333,7 +347,7 @@ impl fmt::Display for Refusal {
                 write!(f, "the 257th rule is written for record {record}; at most 256 are taken")
             }
             Refusal::JobTooShort { records } => {
-                write!(f, "the lent job is too short: {records} records of 4 bytes are needed")
+                write!(f, "the lent buffer is too short for the job written: {records} records of 4 bytes are needed")
             }
             Refusal::Other { number, place } => write!(f, "refused by {number} at {place}"),
         }

@@ -1,7 +1,9 @@
 //! Owned memory for the library's calls, and types that say what it holds.
 use crate::format::start_symbol;
 use crate::listing::{Record, Transition};
-use crate::{explain, sequence, start, turn_of, verdicts, Refusal, Started, Verdicts, CODES, REASONS, TABLE_BYTES};
+use crate::{
+    explain, sequence, start, turn_of, verdicts, CleanCopy, Refusal, Started, Verdicts, CODES, REASONS, TABLE_BYTES,
+};
 use std::fmt;
 
 /// A table and reasons of the right lengths. [`start`](Workspace::start) gives a [`Started`], which becomes a
@@ -175,6 +177,23 @@ impl Workspace {
         let mut codes = [0; CODES];
         let verdicts = verdicts(job, &mut self.table, &mut codes)?;
         Ok((verdicts, codes))
+    }
+
+    /// The clean copy of a job, with what it leaves out. The table is left 0, the reasons as they were. [`cleaned`](crate::cleaned) gives the copy
+    /// alone.
+    ///
+    /// ```
+    /// let job = ropeclover::text::assemble("S 4\nU 4 32\nU 7 33\n").unwrap();
+    /// let copy = ropeclover::Workspace::new().clean(&job).unwrap();
+    /// assert_eq!(copy.job, b"S\0\0\0U\0\x20\0");
+    /// assert_eq!(copy.left_out[0].rule, *b"U\x07\x21\0");
+    /// ```
+    ///
+    /// # Errors
+    /// Refusals 1 to 8; the memory is left as it was.
+    pub fn clean(&mut self, job: &[u8]) -> Result<CleanCopy, Refusal> {
+        let (verdicts, codes) = self.verdicts(job)?;
+        CleanCopy::new(job, verdicts.empty, codes)
     }
 
     /// Explains a form, with a listing as long as it needs. The memory holds the finished table afterwards, listed transitions as 3.

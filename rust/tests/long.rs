@@ -4,23 +4,11 @@ mod support;
 
 use std::collections::BTreeMap;
 use support::jobs::Pairs;
-use support::{long, long_jobs, machine, seed, Guarded, ToldOnFailure};
+use support::{long, long_jobs, machine, seed, written, ToldOnFailure};
 
-const FILL: u8 = 0x77;
-
-/// Compares a call on a buffer of a length, byte for byte; the number of the refusal, 0 for none.
+/// Compares a call on a buffer of a length; the number of the refusal, 0 for none.
 fn compare(text: &[u8], length: usize) -> u64 {
-    let (text, mut job) = (Guarded::new(text, 0x5a), Guarded::new(&vec![FILL; length], 0xa5));
-    let before = text.get().to_vec();
-    let found = ropeclover::binarize(text.get(), job.get_mut()).map_err(|refusal| (refusal.number(), refusal.place()));
-    let expected = long::binarize(&before, length);
-    assert_eq!(found, expected.as_ref().map(Vec::len).map_err(|refusal| *refusal));
-    let mut left = expected.as_ref().map_or(vec![], |records| records.concat());
-    left.resize(length, FILL);
-    assert_eq!(job.get(), left, "the buffer");
-    assert_eq!(text.get(), before, "the long job is only read");
-    job.check();
-    expected.err().map_or(0, |(number, _)| number)
+    written::compare(ropeclover::binarize, text, length, long::binarize(text, length))
 }
 
 /// The bytes that a long job needs, some number where it is refused.

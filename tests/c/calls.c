@@ -433,18 +433,23 @@ static const uint8_t split[] = {
 
 enum { GUARD = 64 };
 
-/* Calls ropeclover_binarize on a buffer of a length between guard bytes, and says whether it has what is expected in front of 7s. */
-static void binarizes(const char *what, const uint8_t *input, size_t length, size_t room, const uint64_t expected[3])
+/* A function that writes a job, and the bytes that are expected of it. */
+struct writer {
+    void (*call)(const uint8_t *, size_t, uint8_t *, size_t, uint64_t[3]);
+    const uint8_t *bytes;
+    size_t length;
+};
+
+/* Calls such a function on a buffer of a length between guard bytes, and says whether it has what is expected in front of 7s. */
+static void writes(const char *what, struct writer writer, const uint8_t *input, size_t length, size_t room, const uint64_t expected[3])
 {
     static uint8_t memory[GUARD + ROPECLOVER_JOB_BYTES + GUARD];
     uint64_t answer[3] = {9, 9, 9};
-    size_t written = expected[0] == 0 ? sizeof split : 0;
+    size_t written = 4 * (size_t)expected[2];
     memset(memory, 7, sizeof memory);
-    ropeclover_binarize(input, length, memory + GUARD, room, answer);
-    for (int i = 0; i < 3; i++) {
-        same(what, answer[i], expected[i]);
-    }
-    same(what, (uint64_t)memcmp(memory + GUARD, split, written), 0);
+    writer.call(input, length, memory + GUARD, room, answer);
+    answers(what, answer, expected, 3);
+    same(what, (uint64_t)memcmp(memory + GUARD, writer.bytes, written), 0);
     size_t changed = 0;
     for (size_t i = 0; i < sizeof memory; i++) {
         changed += (i < GUARD || i >= GUARD + written) && memory[i] != 7;
@@ -452,13 +457,26 @@ static void binarizes(const char *what, const uint8_t *input, size_t length, siz
     same(what, changed, 0);
 }
 
+/* Calls it on buffers with bytes to spare, with none, with a byte too few, and of no bytes. */
+static void needs_room(const char *what, struct writer writer, const uint8_t *input, size_t length)
+{
+    const uint64_t accepted[] = {0, 0, writer.length / 4}, needed[] = {ROPECLOVER_JOB_TOO_SHORT, writer.length / 4, 0};
+    writes(what, writer, input, length, ROPECLOVER_JOB_BYTES, accepted);
+    writes(what, writer, input, length, writer.length, accepted);
+    writes(what, writer, input, length, writer.length - 1, needed);
+    writes(what, writer, input, length, 0, needed);
+}
+
+static const struct writer binarize = {ropeclover_binarize, split, sizeof split};
+
+static void binarizes(const char *what, const uint8_t *input, size_t length, size_t room, const uint64_t expected[3])
+{
+    writes(what, binarize, input, length, room, expected);
+}
+
 static void binarizes_long_bodies(void)
 {
-    static const uint64_t accepted[] = {0, 0, 5}, needed[] = {ROPECLOVER_JOB_TOO_SHORT, 5, 0};
-    binarizes("a long body", text, sizeof text, ROPECLOVER_JOB_BYTES, accepted);
-    binarizes("a long body, no byte to spare", text, sizeof text, sizeof split, accepted);
-    binarizes("a byte too few", text, sizeof text, sizeof split - 1, needed);
-    binarizes("no bytes", text, sizeof text, 0, needed);
+    needs_room("a long body", binarize, text, sizeof text);
     static const uint64_t partial[] = {ROPECLOVER_PARTIAL_RECORD, 2, 0}, none[] = {ROPECLOVER_NO_START, 0, 0};
     binarizes("35 bytes", text, 35, ROPECLOVER_JOB_BYTES, partial);
     binarizes("no records", text, 0, ROPECLOVER_JOB_BYTES, none);
@@ -520,6 +538,71 @@ static void has_limits_of_long_bodies(void)
     binarizes("one tail too many", records, 6 * ROPECLOVER_LONG_RECORD_BYTES, ROPECLOVER_JOB_BYTES, too_few);
 }
 
+/* 9 -> 5 a | b | b 7 without a rule for 7, 5 -> empty, and 6 -> b, which is never reached: of the useful variables, 5 becomes 0 and 9 becomes 1. */
+static const uint8_t unclean[] = {
+    'U', 9, 33, 0, 'P', 9, 33, 7, 'F', 1, 0, 0, 'P', 9, 5, 32, 'U', 6, 33, 0, 'E', 5, 0, 0, 'S', 9, 0, 0, 'T', 0, 6, 1,
+};
+static const uint8_t copy[] = {
+    'S', 1, 0, 0, 'E', 0, 0, 0, 'P', 1, 0, 32, 'U', 1, 33, 0,
+};
+
+static const struct writer clean = {ropeclover_clean, copy, sizeof copy};
+
+static void cleans_jobs(void)
+{
+    needs_room("a copy", clean, unclean, sizeof unclean);
+    needs_room("a copy of a copy", clean, copy, sizeof copy);
+    static const uint8_t none[] = {'S', 9, 0, 0, 'P', 9, 32, 9}, record[] = {'S', 0, 0, 0};
+    static const struct writer start = {ropeclover_clean, record, sizeof record};
+    needs_room("a copy of an empty language", start, none, sizeof none);
+    uint8_t written[ROPECLOVER_COPY_BYTES], codes[ROPECLOVER_CODES];
+    uint64_t answer[4];
+    ropeclover_clean(unclean, sizeof unclean, written, sizeof written, answer);
+    ropeclover_verdicts(written, 4 * answer[2], table, sizeof table, codes, sizeof codes, answer);
+    same("the copy is accepted", answer[0], 0);
+    same("its language", answer[2], 0);
+}
+
+/* Each refusal of a job that clean can make, also where the buffer has no bytes. */
+static void names_refusals_of_clean(void)
+{
+    static const struct {
+        uint8_t job[12];
+        size_t length;
+        uint64_t expected[3];
+    } cases[] = {
+        {{'S', 0, 0}, 3, {ROPECLOVER_PARTIAL_RECORD, 0, 0}},
+        {{'S', 0, 0, 0, 'L', 0, 0, 0}, 8, {ROPECLOVER_UNKNOWN_KIND, 1, 0}},
+        {{'S', 0, 0, 0, 'U', 0, ROPECLOVER_SYMBOLS, 0}, 8, {ROPECLOVER_FIELD_OUTSIDE_CLASS, 1, 0}},
+        {{'I', 0, 0, 0, 'S', 0, 0, 0, 'S', 0, 0, 0}, 12, {ROPECLOVER_REPEATED, 2, 0}},
+        {{'I', 0, 0, 0, 'S', 0, 0, 0, 'S', 1, 0, 0}, 12, {ROPECLOVER_SECOND, 2, 0}},
+        {{'I', 0, 0, 0, 'E', 0, 0, 0}, 8, {ROPECLOVER_NO_START, 2, 0}},
+        {{0}, 0, {ROPECLOVER_NO_START, 0, 0}},
+    };
+    for (size_t i = 0; i < sizeof cases / sizeof cases[0]; i++) {
+        writes("a refusal by clean", clean, cases[i].job, cases[i].length, ROPECLOVER_COPY_BYTES, cases[i].expected);
+        writes("a refusal by clean, no bytes", clean, cases[i].job, cases[i].length, 0, cases[i].expected);
+    }
+}
+
+/* The longest job, the most rules, and the longest copy are those that the header names. */
+static void has_limits_of_clean(void)
+{
+    static uint8_t rules[4 * (ROPECLOVER_RULES + 2)] = {'S', 0, 0, 0}, longest[ROPECLOVER_JOB_BYTES + 4];
+    static const uint64_t too_long[] = {ROPECLOVER_JOB_TOO_LONG, sizeof longest, 0};
+    static const uint64_t too_many[] = {ROPECLOVER_TOO_MANY_RULES, ROPECLOVER_RULES + 1, 0};
+    /* The rules stand in the order of their ranks and all are of use, so that the copy is the job itself. */
+    for (size_t i = 1; i < sizeof rules / 4; i++) {
+        const uint8_t rule[] = {'P', 0, (uint8_t)(32 + i / 32), (uint8_t)(32 + i % 32)};
+        memcpy(rules + 4 * i, rule, 4);
+    }
+    const struct writer most = {ropeclover_clean, rules, ROPECLOVER_COPY_BYTES};
+    same("the longest copy in bytes", ROPECLOVER_COPY_BYTES, sizeof rules - 4);
+    needs_room("the longest copy", most, rules, sizeof rules - 4);
+    writes("clean: one rule more", clean, rules, sizeof rules, ROPECLOVER_COPY_BYTES, too_many);
+    writes("clean: one record more", clean, longest, sizeof longest, ROPECLOVER_COPY_BYTES, too_long);
+}
+
 int main(void)
 {
     takes_entries_apart();
@@ -539,6 +622,9 @@ int main(void)
     binarizes_long_bodies();
     names_refusals_of_long_bodies();
     has_limits_of_long_bodies();
+    cleans_jobs();
+    names_refusals_of_clean();
+    has_limits_of_clean();
     printf("%d passed, %d failed\n", passed, failed);
     return failed != 0;
 }

@@ -1,9 +1,11 @@
-//! Jobs from text, and back; and from long jobs.
-use crate::args::{Assemble, Binarize, Disassemble};
-use crate::failure::Failure;
+//! Jobs from text, and back; from long jobs; and clean copies.
+use super::refused;
+use crate::args::{Assemble, Binarize, Clean, Disassemble, Format};
+use crate::failure::{complain, Failure};
 use crate::input::{self, Input, Unreadable};
-use crate::output;
+use crate::{output, print};
 use ropeclover::text::{self, Names};
+use ropeclover::Workspace;
 
 /// The text of a job's or a long job's bytes.
 fn printed(input: &Input, job: &[u8], names: &Names) -> Result<Vec<u8>, Failure> {
@@ -26,4 +28,14 @@ pub fn binarize(options: &Binarize) -> Result<(), Failure> {
     let input = input::read_long(options.file.as_deref())?;
     let written = if options.text { printed(&input, &input.job, &input.names)? } else { input.job };
     output::write(|output| output.write_all(&written))
+}
+
+pub fn clean(options: &Clean) -> Result<(), Failure> {
+    let input = input::read(options.file.as_deref())?;
+    let copy = Workspace::new().clean(&input.job).map_err(refused(&input, Format::Text))?;
+    let text = || printed(&input, &copy.job, &copy.names(&input.names));
+    let written = if options.text { text()? } else { copy.job.clone() };
+    output::write(|output| output.write_all(&written))?;
+    print::left_out::lines(&copy, &input).iter().for_each(|line| complain(line));
+    Ok(())
 }

@@ -9,7 +9,7 @@ use crate::{json, output, print};
 use clap::CommandFactory;
 use ropeclover::{Refusal, Workspace};
 
-pub use convert::{assemble, binarize, disassemble};
+pub use convert::{assemble, binarize, clean, disassemble};
 pub use explain::explain;
 
 /// A refusal with what it speaks of.

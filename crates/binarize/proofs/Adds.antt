@@ -3,7 +3,8 @@
 use Rattle.grammar.proofs.Basics.{_≡_, refl, _∙_, List, _∷_, [], _++_, append-assoc, ℕ}
 use Rattle.grammar.proofs.Strings.{All, nil, cons}
 use Rattle.job.specs.declared.JobRecord.{JobRecord}
-use Rattle.binarize.specs.Convert.{Conversion, emptyRecord, unitRecord, pairRecord, write, takeOne, split}
+use Rattle.job.specs.Job.{emptyRecord, unitRecord, pairRecord}
+use Rattle.binarize.specs.Convert.{Conversion, write, takeOne, split}
 
 -- each record of a list has a property
 pub data Each (R : JobRecord → Type 0) : List JobRecord → Type 0 where

@@ -4,12 +4,14 @@ use Rattle.grammar.proofs.Basics.{_≡_, refl, _∙_, sym, ap, true, false, Lis
 use Rattle.grammar.proofs.Basics.{add-zero, arith, length, getD, drop, length-drop, length-take}
 use lib.Seq.{getD-drop, drop-drop}
 use Rattle.job.specs.declared.JobRecord.{JobRecord}
+use Rattle.job.specs.Job.{pairRecord}
 use Rattle.binarize.specs.declared.Progress.{Progress}
-use Rattle.binarize.specs.Convert.{Conversion, pairRecord, write, takeOne, split, convert}
+use Rattle.binarize.specs.Convert.{Conversion, write, takeOne, split, convert}
 use Rattle.binarize.specs.Dialect.{isLong, headOf, bodyOf, shortOf}
 use Rattle.binarize.specs.Walk.{inTurn}
-use Rattle.binarize.specs.Inside.Parts.{writtenSize, firstRecords, conversionOf, Room, Appended, Reached}
+use Rattle.binarize.specs.Inside.Parts.{writtenSize, firstRecords, conversionOf, Room, Reached}
 use Rattle.binarize.specs.Inside.Parts.{shortRule}
+use Rattle.binarize.proofs.Buffer.{Appended}
 
 conversion-path : (c d : Conversion) → c .taken ≡ d .taken → c .written ≡ d .written → c ≡ d
 conversion-path c d t w = λ i. record { taken = t i; written = w i }

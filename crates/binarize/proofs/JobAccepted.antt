@@ -5,13 +5,13 @@ use Rattle.job.specs.Format.{fieldClasses}
 use Rattle.job.specs.Check.{fullLimits}
 use Rattle.job.specs.Format.{byteI, byteS}
 use Rattle.job.proofs.Accepted.{passed-check, check-passed-test}
+use Rattle.job.proofs.Bytes.{bytes-counted}
 use Rattle.binarize.specs.Dialect.{textRecords, hasKind}
 use Rattle.binarize.specs.Check.{missing}
 use Rattle.binarize.specs.Fresh.{freeIn}
 use Rattle.binarize.specs.Walk.{walked, inTurn}
 use Rattle.binarize.specs.Operation.{jobRecords}
 use Rattle.binarize.specs.Theorems.Written.{jobWritten, WrittenAccepted}
-use Rattle.binarize.proofs.Bytes.{bytes-counted}
 use Rattle.binarize.proofs.Success.{Passes, success-passes, records-left, few-records}
 use Rattle.binarize.proofs.FirstWalk.{text-passed}
 use Rattle.binarize.proofs.FreeVariables.{free-variable}

@@ -1,4 +1,3 @@
-pub mod Bytes
 pub mod TextRecords
 pub mod Remaining
 pub mod Formed

@@ -1,16 +1,19 @@
 -- Rules that fit, such as an L record is split into, written behind other records: where 5 and 7 refuse none of them,
 -- sound records stay sound. By recursion on the rules. Assumes nothing.
 use Rattle.grammar.proofs.Basics.{_≡_, refl, true, false, _&&_, List, _∷_, [], _++_, append-nil, append-assoc, ℕ, _<_}
-use Rattle.grammar.proofs.Basics.{arith, eqb, leb, lt-ltb}
+use Rattle.grammar.proofs.Basics.{arith, eqb, leb}
+use Rattle.grammar.specs.Rule.{Rule, empty, unit, pair}
 use Rattle.job.specs.declared.JobRecord.{JobRecord}
 use Rattle.job.specs.Format.{fieldClasses, rowOf, badField, isRule, has, byteI, byteS}
 use Rattle.job.specs.Check.{fullLimits, countRules, isSecond, fault}
+use Rattle.job.specs.Job.{recordOf}
+use Rattle.job.specs.Theorems.InRange.{RuleInRange}
 use Rattle.job.proofs.Shapes.{test-passed}
+use Rattle.job.proofs.RuleRecords.{record-rule, record-fits}
 use Rattle.job.proofs.Sound.{Sound}
 use Rattle.job.proofs.Accepted.{grows-behind}
 use Rattle.binarize.proofs.RuleKinds.{for-rule}
 use Rattle.binarize.proofs.Adds.{Each, none, more, Shapes}
-use Rattle.binarize.specs.Convert.{emptyRecord, unitRecord, pairRecord}
 use Rattle.binarize.specs.Walk.{writtenFault}
 
 -- the record of a rule whose fields fit
@@ -18,18 +21,9 @@ pub record FittingRule (x : JobRecord) : Type 0 where
   pub rule : isRule x ≡ true
   pub fitting : badField fieldClasses x ≡ 0
 
--- such are E A, U A X and P A X Y
-empty-fits : {A : ℕ} → A < 32 → FittingRule (emptyRecord A)
-unfolding badField
-empty-fits {A} a = record { rule = refl; fitting = rw (lt-ltb A 32 a) }
-
-unit-fits : {A X : ℕ} → A < 32 → X < 64 → FittingRule (unitRecord A X)
-unfolding badField
-unit-fits {A} {X} a x = record { rule = refl; fitting = rw (lt-ltb A 32 a, lt-ltb X 64 x) }
-
-pair-fits : {A X Y : ℕ} → A < 32 → X < 64 → Y < 64 → FittingRule (pairRecord A X Y)
-unfolding badField
-pair-fits {A} {X} {Y} a x y = record { rule = refl; fitting = rw (lt-ltb A 32 a, lt-ltb X 64 x, lt-ltb Y 64 y) }
+-- such is that of a rule in range
+rule-fits : (ρ : Rule) → RuleInRange ρ → FittingRule (recordOf ρ)
+rule-fits ρ r = record { rule = record-rule ρ .0; fitting = record-fits ρ r .1 }
 
 -- so the rules of a split body fit, where the numbers that are given in turn are variables
 pub shapes-fit : {fresh : ℕ → ℕ} → ((k : ℕ) → fresh k < 32) → Shapes FittingRule fresh (λ A. A < 32) (λ X. X < 64)
@@ -37,9 +31,9 @@ shapes-fit variable =
     record {
       fresh-head = variable;
       fresh-symbol = λ k. omega (arith, variable k);
-      of-none = λ A. empty-fits;
-      of-one = λ A X. unit-fits;
-      of-two = λ A X Y. pair-fits;
+      of-none = λ A. rule-fits (empty A);
+      of-one = λ A X a x. rule-fits (unit A X) (a, x);
+      of-two = λ A X Y a x y. rule-fits (pair A X Y) (a, x, y);
     }
 
 -- what 5 and 7 have passed

@@ -1,21 +1,21 @@
 -- What a call that is not refused has passed, and the job that it leaves. Assumes nothing.
 use Rattle.grammar.proofs.Basics.{_≡_, _∙_, ap, List, ℕ, _≤_, _*_, eqb, length, take-at, eqb-true, eqb-false}
 use Rattle.grammar.proofs.Basics.{ltb-false, cases}
-use Rattle.job.specs.Format.{recordsOf}
+use Rattle.job.specs.Format.{recordsOf, bytesOf}
 use Rattle.job.proofs.Accepted.{both-pass, check-passed-test}
+use Rattle.job.proofs.Bytes.{bytes-counted, records-of-bytes}
 use Rattle.binarize.specs.Dialect.{textRecords}
 use Rattle.binarize.specs.Check.{textCheck, missing}
 use Rattle.binarize.specs.Walk.{walked}
-use Rattle.binarize.specs.Operation.{binarizeCheck, binarizeOf, bytesOf, jobRecords, roomCheck}
+use Rattle.binarize.specs.Operation.{binarizeCheck, binarizeOf, jobRecords, sizeCheck}
 use Rattle.binarize.specs.Theorems.Written.{jobWritten, Succeeds}
-use Rattle.binarize.proofs.Bytes.{bytes-counted, records-of-bytes}
 
 -- the checks one by one, and the job's bytes
 pub record Passes (text out : List ℕ) : Type 0 where
   pub first-walk : textCheck text .number ≡ 0
   pub second-walk : walked (textRecords text) .refusal .number ≡ 0
   pub none-missing : missing (textRecords text) .number ≡ 0
-  pub room : roomCheck (length (jobRecords text)) (length out) .number ≡ 0
+  pub room : sizeCheck (length (jobRecords text)) (length out) .number ≡ 0
   pub bytes : jobWritten text out ≡ bytesOf (jobRecords text)
 
 pub success-passes : (text out : List ℕ) → Succeeds text out → Passes text out
@@ -42,5 +42,5 @@ records-left p = ap recordsOf (p .bytes) ∙ records-of-bytes _
 
 -- and they take at most 16,384 bytes
 pub few-records : {text out : List ℕ} → Passes text out → 4 * length (jobRecords text) ≤ 16384
-unfolding roomCheck
+unfolding sizeCheck
 few-records p = ltb-false _ _ (check-passed-test _ _ _ _ (p .room) .0)

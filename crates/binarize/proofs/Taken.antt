@@ -4,8 +4,9 @@ use Rattle.grammar.proofs.Basics.{_≡_, _∙_, cond, List, _∷_, [], _++_, �
 use Rattle.grammar.proofs.Basics.{cases}
 use lib.ListN.{List·getD-append}
 use lib.Seq.{getD-append-add}
+use Rattle.job.specs.Job.{pairRecord}
 use Rattle.binarize.specs.Dialect.{isLong, headOf, bodyOf}
-use Rattle.binarize.specs.Convert.{Conversion, pairRecord, write, takeOne, split, convert}
+use Rattle.binarize.specs.Convert.{Conversion, write, takeOne, split, convert}
 use Rattle.binarize.proofs.Converted.{converts}
 
 unfoldable pub tails : List ℕ → List (List ℕ)

@@ -3,23 +3,13 @@ use Prim.Native.Nat.{ℕ, suc}
 use mathlib.Core.Bool.{cond}
 use mathlib.Core.List.{List, [], _∷_, _++_}
 use Rattle.job.specs.declared.JobRecord.{JobRecord}
-use Rattle.job.specs.Format.{byteE, byteU, byteP}
+use Rattle.job.specs.Job.{emptyRecord, unitRecord, pairRecord}
 use Rattle.binarize.specs.Dialect.{isLong, headOf, bodyOf, shortOf}
 
 -- how far a conversion is: how many of the free variables are taken, and the records written
 pub record Conversion : Type 0 where
   pub taken : ℕ
   pub written : List JobRecord
-
--- the records E A, U A X and P A X Y
-abbrev pub emptyRecord : ℕ → JobRecord
-emptyRecord A = record { kind = byteE; first = A; second = 0; third = 0 }
-
-abbrev pub unitRecord : ℕ → ℕ → JobRecord
-unitRecord A X = record { kind = byteU; first = A; second = X; third = 0 }
-
-abbrev pub pairRecord : ℕ → ℕ → ℕ → JobRecord
-pairRecord A X Y = record { kind = byteP; first = A; second = X; third = Y }
 
 -- one record more is written
 abbrev pub write : JobRecord → Conversion → Conversion

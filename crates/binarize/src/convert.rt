@@ -9,20 +9,7 @@ ghost use Prim.Native.Nat.{_<_, _≤_};
 ghost use lib.ListN.{length};
 ghost use Rattle.binarize.specs.Convert.{split, convert};
 ghost use Rattle.binarize.specs.Walk.{inTurn};
-ghost use Rattle.binarize.specs.Inside.Parts.{writtenRecords, writtenSize, conversionOf, Room, Appended};
-ghost use Rattle.binarize.specs.Inside.Parts.{Reached, shortRule};
-
-// Writes a record behind the first `count`.
-fn put_record(written: &mut [u8], count: usize, r: JobRecord)
-    requires room { ⌜ (length (now written) ≡ writtenSize) × (count < writtenRecords) ⌝ }
-    ensures appended { λ _. ⌜ Appended (now (written .entry)) (now (written .exit)) count r ⌝ }
-{
-    let at = 4 * count;
-    written[at] = r.kind;
-    written[at + 1] = r.first;
-    written[at + 2] = r.second;
-    written[at + 3] = r.third;
-}
+ghost use Rattle.binarize.specs.Inside.Parts.{conversionOf, Room, Reached, shortRule};
 
 // Splits a body of two or more: each pair rule but the last takes a variable for the rest.
 fn split_long(
@@ -49,7 +36,7 @@ fn split_long(
             second: body[k],
             third: tail,
         };
-        put_record(written, p.count + k, r);
+        job::format::put_record(written, p.count + k, r);
         variable = tail;
         k += 1;
     }
@@ -59,7 +46,7 @@ fn split_long(
         second: body[last],
         third: body[last + 1],
     };
-    put_record(written, p.count + last, r);
+    job::format::put_record(written, p.count + last, r);
     Progress {
         taken: p.taken + last,
         count: p.count + last + 1,
@@ -101,7 +88,7 @@ fn convert_long(
         (split (inTurn (now (free .entry))) head (now (body .entry)) (conversionOf p (now (written .entry)))) ⌝ }
 {
     if body.len() < 2 {
-        put_record(written, p.count, short_rule(head, body));
+        job::format::put_record(written, p.count, short_rule(head, body));
         return Progress {
             taken: p.taken,
             count: p.count + 1,
@@ -120,7 +107,7 @@ pub fn convert(bytes: &[u8], free: &[u8; SYMBOLS], written: &mut [u8], p: Progre
     if dialect::is_long(bytes) {
         return convert_long(dialect::body(bytes), bytes[1], free, written, p);
     }
-    put_record(written, p.count, dialect::short_record(bytes));
+    job::format::put_record(written, p.count, dialect::short_record(bytes));
     Progress {
         taken: p.taken,
         count: p.count + 1,

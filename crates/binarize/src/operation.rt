@@ -11,13 +11,13 @@ ghost use lib.ListN.{length, drop};
 ghost use Rattle.job.specs.Check.{orElse};
 ghost use Rattle.binarize.specs.Dialect.{textRecords};
 ghost use Rattle.binarize.specs.Check.{missing};
-ghost use Rattle.binarize.specs.Operation.{roomCheck, binarizeOf, binarizeLeaves};
+ghost use Rattle.binarize.specs.Operation.{sizeCheck, binarizeOf, binarizeLeaves};
 ghost use Rattle.binarize.specs.Inside.Parts.{refusal};
 
 // 2 for more bytes written than a job may have, then 13 for a buffer that they do not fit into.
-fn room_check(count: usize, room: usize) -> Checked
+fn size_check(count: usize, room: usize) -> Checked
     requires few { ⌜ count ≤ 4352 ⌝ }
-    ensures checked { λ c. ⌜ c ≡ roomCheck count room ⌝ }
+    ensures checked { λ c. ⌜ c ≡ sizeCheck count room ⌝ }
 {
     let needed = 4 * count;
     if job::JOB_BYTES < needed {
@@ -26,28 +26,19 @@ fn room_check(count: usize, room: usize) -> Checked
             place: needed,
         };
     }
-    if room < needed {
-        return Checked {
-            number: 13,
-            place: count,
-        };
-    }
-    Checked {
-        number: 0,
-        place: 0,
-    }
+    job::check::room_check(count, room)
 }
 
 // The checks after the second walk: 8, 9, 2 and 13.
 fn last_check(text: &[u8], count: usize, room: usize) -> Checked
     requires few { ⌜ count ≤ 4352 ⌝ }
-    ensures checked { λ c. ⌜ c ≡ orElse (missing (textRecords (now (text .entry)))) (roomCheck count room) ⌝ }
+    ensures checked { λ c. ⌜ c ≡ orElse (missing (textRecords (now (text .entry)))) (sizeCheck count room) ⌝ }
 {
     let c = check::missing_kind(text);
     if c.number != 0 {
         return c;
     }
-    room_check(count, room)
+    size_check(count, room)
 }
 
 // The answer of a refused call.

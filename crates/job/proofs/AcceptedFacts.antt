@@ -35,7 +35,7 @@ pub record FieldFrom (k : ℕ) (rs : List JobRecord) : Type 0 where
   pub of-kind : from .kind ≡ k
   pub field : fieldOf k rs ≡ from .first
 
-field-from : (k : ℕ) (rs : List JobRecord) → 0 < countKind k rs → FieldFrom k rs
+pub field-from : (k : ℕ) (rs : List JobRecord) → 0 < countKind k rs → FieldFrom k rs
 unfolding countKind fieldOf
 field-from k [] h = absurd (omega arith)
 field-from k (r ∷ rs) h =

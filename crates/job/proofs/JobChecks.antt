@@ -1,11 +1,11 @@
 -- Laws of the checks of a job's bytes: where a job passes the verdicts' checks, all that is left is whether it has an
 -- I, which the order of the records does not change. Assumes nothing.
-use Rattle.grammar.proofs.Basics.{_≡_, refl, ap, true, false, Bool, _&&_, cond, List, [], ℕ, _≤_, suc, arith, eqb}
-use Rattle.grammar.proofs.Basics.{length, cases}
+use Rattle.grammar.proofs.Basics.{_≡_, refl, ap, true, false, Bool, _&&_, cond, List, [], ℕ, _≤_, suc, _*_, arith, eqb}
+use Rattle.grammar.proofs.Basics.{ltb, length, ltb-false, cases}
 use Rattle.job.specs.declared.Checked.{Checked}
 use Rattle.job.specs.declared.Limits.{Limits}
 use Rattle.job.specs.Format.{fieldClasses, recordsOf, byteI}
-use Rattle.job.specs.Check.{countKind, refused, accepted, checkOf, fullLimits, jobCheck}
+use Rattle.job.specs.Check.{countKind, refused, accepted, checkOf, fullLimits, jobCheck, roomCheck}
 use Rattle.job.specs.Accepted.{Accepted}
 use Rattle.job.specs.Order.{SameRecords}
 use Rattle.job.specs.Show.{partOf, shownPart, shownOf}
@@ -40,6 +40,12 @@ nothing-shown ok = rw (accepted-check ok)
 pub not-short : (short : Bool) (place : ℕ) → cond short (refused 10 place) accepted .number ≡ 0 → short ≡ false
 not-short true place e = absurd (omega arith)
 not-short false place e = refl
+
+-- nor is one that is not refused by 13
+pub room-fits : (records room : ℕ) → roomCheck records room .number ≡ 0 → 4 * records ≤ room
+unfolding roomCheck
+room-fits records room e =
+    cases (ltb room (4 * records)) (λ t. absurd (omega (arith, rw t at e))) (λ t. ltb-false room (4 * records) t)
 
 -- the limits of a call are the full ones
 pub at-full-limits :

@@ -2,6 +2,7 @@ pub mod Members
 pub mod Permutation
 pub mod NoRepeat
 pub mod Shapes
+pub mod RuleRecords
 pub mod Sound
 pub mod Accepted
 pub mod SortedRules
@@ -10,6 +11,7 @@ pub mod States
 pub mod OrderFree
 pub mod AcceptedFacts
 pub mod Records
+pub mod Bytes
 pub mod Earlier
 pub mod Marks
 pub mod Walk

@@ -1,5 +1,5 @@
--- Refused calls: short buffers, 10, and the checks of a job's bytes, 1 to 9. Assumes nothing.
-use Prim.Native.Nat.{ℕ, _+_, _/_, _%_}
+-- Refused calls: short buffers, 10 and 13, and the checks of a job's bytes, 1 to 9. Assumes nothing.
+use Prim.Native.Nat.{ℕ, _+_, _*_, _/_, _%_}
 use mathlib.Core.Bool.{Bool, cond, not, _&&_, _||_}
 use mathlib.Core.List.{List, [], _∷_, _++_}
 use lib.Dec.{eqb, ltb, leb}
@@ -30,6 +30,11 @@ shortReasons reasons = cond (ltb (length reasons) 32768) (refused 10 2) accepted
 
 abbrev pub shortCodes : List ℕ → Checked
 shortCodes codes = cond (ltb (length codes) 64) (refused 10 3) accepted
+
+-- Refused calls, 13, where records are written: the buffer is shorter than they are. By how many they are and how long
+-- the buffer is.
+unfoldable pub roomCheck : ℕ → ℕ → Checked
+roomCheck records room = cond (ltb room (4 * records)) (refused 13 records) accepted
 
 -- how many records have a kind
 unfoldable pub countKind : ℕ → List JobRecord → ℕ

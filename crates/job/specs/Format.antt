@@ -17,6 +17,11 @@ recordsOf (k ∷ a ∷ []) = []
 recordsOf (k ∷ a ∷ b ∷ []) = []
 recordsOf (k ∷ a ∷ b ∷ c ∷ rest) = record { kind = k; first = a; second = b; third = c } ∷ recordsOf rest
 
+-- the bytes of records
+unfoldable pub bytesOf : List JobRecord → List ℕ
+bytesOf [] = []
+bytesOf (r ∷ rs) = r .kind ∷ r .first ∷ r .second ∷ r .third ∷ bytesOf rs
+
 -- a record without meaning, for places past the end of a list
 abbrev pub noRecord : JobRecord
 noRecord = record { kind = 0; first = 0; second = 0; third = 0 }

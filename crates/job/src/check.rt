@@ -1,4 +1,4 @@
-// The checks of a job: refusals 1 to 9.
+// The checks of a job, refusals 1 to 9, and that of room for what is written, 13.
 use crate::Checked;
 use crate::JOB_BYTES;
 use crate::JobRecord;
@@ -14,7 +14,7 @@ ghost use Prim.Native.Nat.{_+_, _<_, _≤_, _%_};
 ghost use lib.Dec.{eqb};
 ghost use lib.ListN.{length, getD, set};
 ghost use Rattle.job.specs.Format.{fieldClasses, recordsOf};
-ghost use Rattle.job.specs.Check.{checkOf, firstFault, missing, orElse, refused, recordPlace};
+ghost use Rattle.job.specs.Check.{checkOf, firstFault, missing, orElse, refused, recordPlace, roomCheck};
 ghost use Rattle.job.specs.Inside.Walk.{formFault, orderFault, counted, missingBy, markOf};
 
 // 3 or 4 where the record itself is at fault, else 0.
@@ -189,4 +189,21 @@ pub fn check(job: &[u8], limits: Limits, needed: bool) -> Checked
         };
     }
     check_records(job, limits, needed)
+}
+
+// 13 where a buffer has no room for so many records.
+pub fn room_check(records: usize, room: usize) -> Checked
+    requires few { ⌜ records ≤ 65536 ⌝ }
+    ensures checked { λ c. ⌜ c ≡ roomCheck records room ⌝ }
+{
+    if room < 4 * records {
+        return Checked {
+            number: 13,
+            place: records,
+        };
+    }
+    Checked {
+        number: 0,
+        place: 0,
+    }
 }

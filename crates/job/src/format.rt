@@ -1,11 +1,12 @@
-// The record format: the table of kinds and fields, and reading a record.
+// The record format: the table of kinds and fields, reading a record and writing one.
 use crate::FieldClass;
 use crate::JobRecord;
 ghost use mathlib.Core.Path.{_≡_};
+ghost use mathlib.Core.List.{[], _∷_, _++_};
 ghost use Prim.Native.Nat.{_+_, _*_, _<_, _≤_};
-ghost use lib.ListN.{length, getD};
+ghost use lib.ListN.{length, getD, take, drop};
 ghost use Rattle.job.specs.Format.{fieldClasses, rowOf, classAt, inClass, badField, same, isRule};
-ghost use Rattle.job.specs.Format.{recordsOf, noRecord};
+ghost use Rattle.job.specs.Format.{recordsOf, noRecord, bytesOf};
 
 // The classes of the three fields, a row for each kind: E, U, P, T, I, F, S.
 const FIELD_CLASSES: [[FieldClass; 3]; 7] = [
@@ -121,4 +122,17 @@ pub fn alike(job: &[u8], i: usize, r: JobRecord) -> bool
         return false;
     }
     job[at] == r.kind
+}
+
+// Writes a record as record i of a buffer.
+pub fn put_record(out: &mut [u8], i: usize, r: JobRecord)
+    requires within { ⌜ 4 * i + 4 ≤ length (now out) ⌝ }
+    ensures put { λ _. ⌜ now (out .exit) ≡ take (4 * i) (now (out .entry))
+        ++ (bytesOf (r ∷ []) ++ drop (4 * i + 4) (now (out .entry))) ⌝ }
+{
+    let at = 4 * i;
+    out[at] = r.kind;
+    out[at + 1] = r.first;
+    out[at + 2] = r.second;
+    out[at + 3] = r.third;
 }

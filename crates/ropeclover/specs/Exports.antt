@@ -9,6 +9,7 @@ use Rattle.forms.specs.declared.Asked.{Asked}
 use Rattle.forms.specs.declared.Explained.{Explained}
 use Rattle.verdicts.specs.declared.Verdicts.{Verdicts}
 use Rattle.binarize.specs.declared.Binarized.{Binarized}
+use Rattle.clean.specs.declared.Cleaned.{Cleaned}
 use Rattle.bits.specs.declared.Counted.{Counted}
 
 abbrev pub startNumbers : Started → List ℕ
@@ -32,6 +33,9 @@ showNumbers p = p .offset ∷ p .length ∷ []
 
 abbrev pub binarizeNumbers : Binarized → List ℕ
 binarizeNumbers a = a .number ∷ a .place ∷ a .records ∷ []
+
+abbrev pub cleanNumbers : Cleaned → List ℕ
+cleanNumbers a = a .number ∷ a .place ∷ a .records ∷ []
 
 abbrev pub countNumbers : Counted → List ℕ
 countNumbers a = a .number ∷ a .place ∷ a .count ∷ []

@@ -13,8 +13,10 @@ ghost use Rattle.forms.specs.Operations.{askOf, explainOf};
 ghost use Rattle.verdicts.specs.Operation.{verdictsOf};
 ghost use Rattle.ropeclover.specs.Exports.{startNumbers, advanceNumbers, askNumbers, explainNumbers};
 ghost use Rattle.binarize.specs.Operation.{binarizeOf};
+ghost use Rattle.clean.specs.Operation.{cleanOf};
 ghost use Rattle.bits.specs.Operations.{startBitsOf, advanceBitsOf, askBitsOf, doneCountOf};
-ghost use Rattle.ropeclover.specs.Exports.{verdictsNumbers, showNumbers, binarizeNumbers, countNumbers};
+ghost use Rattle.ropeclover.specs.Exports.{verdictsNumbers, showNumbers, binarizeNumbers, cleanNumbers};
+ghost use Rattle.ropeclover.specs.Exports.{countNumbers};
 
 // The numbers of an answer.
 fn write2(answer: &mut [u64], a: u64, b: u64)
@@ -193,6 +195,16 @@ pub extern "C" fn ropeclover_binarize(text: &[u8], job: &mut [u8], answer: &mut 
     ensures left { λ _. ⌜ now (job .exit) ≡ binarizeOf (now (text .entry)) (now (job .entry)) .job ⌝ }
 {
     let r = operations::binarize(text, job);
+    write3(answer, r.number as u64, r.place as u64, r.records as u64);
+}
+
+#[no_mangle]
+pub extern "C" fn ropeclover_clean(job: &[u8], out: &mut [u8], answer: &mut [u64; 3])
+    ensures answered { λ _. ⌜ now (answer .exit)
+        ≡ cleanNumbers (cleanOf (now (job .entry)) (now (out .entry)) .answer) ⌝ }
+    ensures left { λ _. ⌜ now (out .exit) ≡ cleanOf (now (job .entry)) (now (out .entry)) .out ⌝ }
+{
+    let r = operations::clean(job, out);
     write3(answer, r.number as u64, r.place as u64, r.records as u64);
 }
 

@@ -2,6 +2,7 @@
 // place.
 use binarize::Binarized;
 use bits::Counted;
+use clean::Cleaned;
 use forms::Asked;
 use forms::Explained;
 use saturation::Advanced;
@@ -14,6 +15,7 @@ ghost use Rattle.saturation.specs.Table.{lentOf};
 ghost use Rattle.forms.specs.Operations.{askOf, explainOf, explainLeaves};
 ghost use Rattle.verdicts.specs.Operation.{verdictsOf, verdictsLeave};
 ghost use Rattle.binarize.specs.Operation.{binarizeOf, binarizeLeaves};
+ghost use Rattle.clean.specs.Operation.{cleanOf, cleanLeaves};
 ghost use Rattle.bits.specs.Operations.{startBitsOf, advanceBitsOf, askBitsOf, doneCountOf};
 
 // Writes the table and the reasons that the job starts from, and answers its number of states.
@@ -76,6 +78,14 @@ pub fn binarize(text: &[u8], job: &mut [u8]) -> Binarized
     ensures left { λ r. ⌜ binarizeLeaves r (now (job .exit)) ≡ binarizeOf (now (text .entry)) (now (job .entry)) ⌝ }
 {
     binarize::operation::binarize(text, job)
+}
+
+// Writes the clean copy of a job, its useful rules with their variables numbered from 0, and answers its number of
+// records. What holds of the copy stands in crate clean's specs/Theorems.
+pub fn clean(job: &[u8], out: &mut [u8]) -> Cleaned
+    ensures left { λ r. ⌜ cleanLeaves r (now (out .exit)) ≡ cleanOf (now (job .entry)) (now (out .entry)) ⌝ }
+{
+    clean::operation::clean(job, out)
 }
 
 // Start on a bit table: it writes all of both halves.

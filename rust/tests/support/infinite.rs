@@ -53,7 +53,7 @@ pub fn without_empty_bodies(productions: &[Production]) -> Vec<Production> {
 }
 
 /// The productions that stand in some derivation of a terminal string from the start symbol.
-fn of_use(productions: &[Production], start: u8) -> Vec<Production> {
+pub fn of_use(productions: &[Production], start: u8) -> Vec<Production> {
     let generating = with_heads(productions, (32..64).collect(), all);
     let kept: Vec<Production> = productions.iter().filter(|(_, body)| all(&generating, body)).cloned().collect();
     let mut reached = BTreeSet::from([start]);

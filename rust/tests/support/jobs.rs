@@ -1,5 +1,5 @@
 //! Random jobs: accepted ones of many shapes, and damaged ones.
-use super::Random;
+use super::{machine, Random};
 use std::collections::BTreeSet;
 
 pub type Record = [u8; 4];
@@ -44,7 +44,7 @@ impl Pairs {
     }
 }
 
-fn rule(random: &mut Random, variables: usize, terminals: usize, pairs: Pairs) -> Record {
+pub fn rule(random: &mut Random, variables: usize, terminals: usize, pairs: Pairs) -> Record {
     let head = random.byte_below(variables);
     match random.below(10) {
         0 => [b'E', head, 0, 0],
@@ -73,6 +73,16 @@ pub fn accepted(random: &mut Random, pairs: Pairs) -> Vec<u8> {
         records.insert([b'I', random.byte_below(states), 0, 0]);
     }
     let mut records: Vec<Record> = records.into_iter().collect();
+    random.shuffle(&mut records);
+    records.concat()
+}
+
+/// An accepted job without T, I and F records that has few rules for its variables, so that often some are of use and others are not.
+pub fn sparse(random: &mut Random) -> Vec<u8> {
+    let (variables, terminals) = (3 + random.below(6), 1 + random.below(4));
+    let count = variables + random.below(variables + 2);
+    let rules: BTreeSet<Record> = (0..count).map(|_| rule(random, variables, terminals, Pairs::Symbols)).collect();
+    let mut records: Vec<Record> = rules.into_iter().chain([[b'S', random.byte_below(variables), 0, 0]]).collect();
     random.shuffle(&mut records);
     records.concat()
 }
@@ -118,6 +128,24 @@ pub fn damaged(random: &mut Random, pairs: Pairs) -> Vec<u8> {
 /// The same records in another order.
 pub fn shuffled(random: &mut Random, job: &[u8]) -> Vec<u8> {
     let mut records: Vec<&[u8]> = job.chunks(4).collect();
+    random.shuffle(&mut records);
+    records.concat()
+}
+
+/// An accepted job under other numbers: its variables and its terminals are permuted, so that there are gaps between those that it names.
+pub fn renumbered(random: &mut Random, job: &[u8]) -> Vec<u8> {
+    let (mut variables, mut terminals): (Vec<u8>, Vec<u8>) = ((0..32).collect(), (32..64).collect());
+    random.shuffle(&mut variables);
+    random.shuffle(&mut terminals);
+    let numbers = [variables, terminals].concat();
+    job.chunks(4).flat_map(|record| machine::with_symbols(record, |symbol| numbers[usize::from(symbol)])).collect()
+}
+
+/// The rules and the start symbol of one job with the T, I and F records of another, in random order.
+pub fn with_automaton(random: &mut Random, job: &[u8], other: &[u8]) -> Vec<u8> {
+    let of_automaton = |record: &&[u8]| b"TIF".contains(&record[0]);
+    let rules = job.chunks(4).filter(|record| !of_automaton(record));
+    let mut records: Vec<&[u8]> = rules.chain(other.chunks(4).filter(of_automaton)).collect();
     random.shuffle(&mut records);
     records.concat()
 }

@@ -4,6 +4,7 @@ pub mod bits;
 pub mod bits_run;
 pub mod both;
 pub mod cky;
+pub mod clean;
 pub mod infinite;
 pub mod jobs;
 pub mod long;
@@ -11,7 +12,9 @@ pub mod long_jobs;
 pub mod machine;
 pub mod productions;
 pub mod run;
+pub mod strings;
 pub mod verdicts;
+pub mod written;
 
 #[path = "../../src/random.rs"]
 mod random;

@@ -1,19 +1,20 @@
 -- What single functions of the conversion take and give. Assumes nothing.
 use mathlib.Core.Path.{_≡_}
 use mathlib.Core.Bool.{cond, _&&_}
-use mathlib.Core.List.{List, [], _∷_, _++_}
+use mathlib.Core.List.{List, [], _∷_}
 use Prim.Native.Nat.{ℕ, _+_, _*_, _<_, _≤_}
 use lib.Dec.{leb}
 use lib.ListN.{length, getD, take}
 use Rattle.job.specs.declared.JobRecord.{JobRecord}
 use Rattle.job.specs.Format.{recordsOf, isRule, has}
 use Rattle.job.specs.Check.{countRules, refused}
+use Rattle.job.specs.Job.{emptyRecord, unitRecord}
 use Rattle.binarize.specs.declared.Binarized.{Binarized}
 use Rattle.binarize.specs.declared.Progress.{Progress}
 use Rattle.binarize.specs.declared.Step.{Step}
 use Rattle.binarize.specs.declared.WalkEnd.{WalkEnd}
 use Rattle.binarize.specs.Check.{formFault}
-use Rattle.binarize.specs.Convert.{Conversion, emptyRecord, unitRecord}
+use Rattle.binarize.specs.Convert.{Conversion}
 use Rattle.binarize.specs.Walk.{convertFault, walked}
 
 -- no record is refused by itself
@@ -47,11 +48,6 @@ pub record Room (p : Progress) (out : List ℕ) : Type 0 where
   pub out-size : length out ≡ writtenSize
   pub variables-left : p .taken + 6 ≤ 64
   pub records-left : p .count + 7 ≤ writtenRecords
-
--- one record was written behind the first n
-pub record Appended (before after : List ℕ) (n : ℕ) (r : JobRecord) : Type 0 where
-  pub size : length after ≡ writtenSize
-  pub is : firstRecords (n + 1) after ≡ firstRecords n before ++ (r ∷ [])
 
 -- what the code's numbers and buffer say now is a conversion, and no more came to those of before than a record takes
 pub record Reached (before p : Progress) (out : List ℕ) (c : Conversion) : Type 0 where

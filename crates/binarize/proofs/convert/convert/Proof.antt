@@ -1,5 +1,6 @@
 -- An L record's body is converted; any other record is written as it is. Assumes nothing.
-use Rattle.grammar.proofs.Basics.{refl, _∙_, sym, needs}
+use Rattle.grammar.proofs.Basics.{refl, _∙_, sym, arith, needs}
+use Rattle.binarize.proofs.Buffer.{appended}
 use Rattle.binarize.proofs.ConversionSteps.{converted-long, converted-short, body-few}
 use Rattle.binarize.proofs.convert.convert.Statement.{statement}
 use Rattle.binarize.proofs.convert.convert.Tie as tie
@@ -26,7 +27,8 @@ returns-2 c =
     let e = r .before .before in
     let s = e .before .before .before .before in
     converted-short _ _ _ (s .args .free .now) (s .args .bytes .now)
-    (sym (e .before .is-long .ensures) ∙ e .if1 .left) (rw (r .short-record .ensures) at (p .put-record .ensures))
+    (sym (e .before .is-long .ensures) ∙ e .if1 .left)
+    (appended _ _ _ _ (rw (r .short-record .ensures) at (p .put-record .ensures)) (s .pre .1 .out-size) (omega arith))
 
 pub convert-spec : {M : Type 1} → statement M
 convert-spec =

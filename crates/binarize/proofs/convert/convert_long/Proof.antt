@@ -1,5 +1,6 @@
 -- A body of none or one is written as its rule; a longer one is split. Assumes nothing.
-use Rattle.grammar.proofs.Basics.{needs}
+use Rattle.grammar.proofs.Basics.{arith, needs}
+use Rattle.binarize.proofs.Buffer.{appended}
 use Rattle.binarize.proofs.ConversionSteps.{short-written}
 use Rattle.binarize.proofs.convert.convert_long.Statement.{statement}
 use Rattle.binarize.proofs.convert.convert_long.Tie as tie
@@ -11,7 +12,7 @@ returns c =
     let t = r .before .before in
     let s = t .before .before .before in
     short-written _ _ _ (s .args .free .now) (s .args .body .now) (s .args .head) (t .if1 .taken)
-    (rw (r .short-rule .ensures) at (p .put-record .ensures))
+    (appended _ _ _ _ (rw (r .short-rule .ensures) at (p .put-record .ensures)) (s .pre .1 .out-size) (omega arith))
 
 pub convert-long-spec : {M : Type 1} → statement M
 convert-long-spec =

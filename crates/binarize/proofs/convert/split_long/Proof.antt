@@ -1,5 +1,6 @@
 -- The invariant: the rest of the body, split from here, comes to what the whole body comes to. Assumes nothing.
 use Rattle.grammar.proofs.Basics.{_≡_, _-_, _+_, arith, length, needs}
+use Rattle.binarize.proofs.Buffer.{appended}
 use Rattle.binarize.proofs.ConversionSteps.{Splitting, splitting-none, splitting-more, splitting-all}
 use Rattle.binarize.proofs.convert.split_long.Statement.{statement}
 use Rattle.binarize.proofs.convert.split_long.Tie as tie
@@ -15,7 +16,8 @@ loop-again : tie.Need-loop-again Inv-loop μ-loop
 loop-again c =
     let p = c .before .before in
     let l = p .before .before .before .before .before .before .before in (
-      splitting-more _ _ _ _ _ _ _ _ (l .loop .inv .0) _ (omega arith) (p .put-record .ensures),
+      splitting-more _ _ _ _ _ _ _ _ (l .loop .inv .0) _ (omega arith)
+          (appended _ _ _ _ (p .put-record .ensures) (l .loop .inv .0 .out-size) (omega arith)),
       l .loop .inv .1,
     )
 
@@ -26,8 +28,8 @@ returns c =
     let s = l .before .before .before in
     let end : length (s .args .body .now) - 2 ≡ l .loop .k = omega arith in
     rw end
-    (splitting-all _ _ _ _ _ _ _ _ (l .loop .inv .0) _ (omega arith) (rw end at (p .put-record2 .ensures))
-    (s .pre .0 .1))
+    (splitting-all _ _ _ _ _ _ _ _ (l .loop .inv .0) _ (omega arith)
+    (appended _ _ _ _ (rw end at (p .put-record2 .ensures)) (l .loop .inv .0 .out-size) (omega arith)) (s .pre .0 .1))
 
 pub split-long-spec : {M : Type 1} → statement M
 split-long-spec =

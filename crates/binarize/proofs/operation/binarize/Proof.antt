@@ -1,28 +1,30 @@
 -- `operation::binarize`: the check that refuses is the first that does; where none does, the bytes copied are those of
 -- the records written. Assumes nothing.
 use Rattle.grammar.proofs.Basics.{_≡_, _∙_, sym, ap, List, _++_, ℕ, _≤_, _-_, _*_, arith, length, take, drop}
-use Rattle.grammar.proofs.Basics.{length-take-le, ltb, eq-eqb, ne-eqb, ltb-false, needs}
+use Rattle.grammar.proofs.Basics.{length-take-le, ltb, eq-eqb, ne-eqb, needs}
 use native.Mathlib.Nat.{sub-zero}
 use lib.ListN.{length-replicate}
 use Rattle.job.specs.declared.Checked.{Checked}
+use Rattle.job.specs.Format.{bytesOf}
 use Rattle.job.specs.Check.{refused, orElse}
 use Rattle.job.proofs.Accepted.{both-pass, check-passed-test}
+use Rattle.job.proofs.JobChecks.{room-fits}
+use Rattle.job.proofs.Bytes.{bytes-of-records}
 use Rattle.binarize.specs.declared.Binarized.{Binarized}
 use Rattle.binarize.specs.declared.WalkEnd.{WalkEnd}
 use Rattle.binarize.specs.Dialect.{textRecords}
 use Rattle.binarize.specs.Check.{textCheck, missing}
-use Rattle.binarize.specs.Operation.{bytesOf, jobRecords, roomCheck, binarizeCheck, binarizeLeaves, binarizeOf}
+use Rattle.binarize.specs.Operation.{jobRecords, sizeCheck, binarizeCheck, binarizeLeaves, binarizeOf}
 use Rattle.binarize.specs.Inside.Parts.{writtenSize, WalkedTo, refusal}
 use Rattle.binarize.proofs.Buffer.{first-counted}
-use Rattle.binarize.proofs.Bytes.{bytes-of-records}
 use Rattle.binarize.proofs.FirstWalk.{text-passed, all-formed}
 use Rattle.binarize.proofs.operation.binarize.Statement.{statement}
 use Rattle.binarize.proofs.operation.binarize.Tie as tie
 
-room-fits : (n room : ℕ) → roomCheck n room .number ≡ 0 → 4 * n ≤ room
-unfolding roomCheck
-room-fits n room e =
-    ltb-false room (4 * n) (check-passed-test _ _ _ _ (check-passed-test (ltb 16384 (4 * n)) _ _ _ e .1) .0)
+-- what passes the check of its size fits
+size-fits : (n room : ℕ) → sizeCheck n room .number ≡ 0 → 4 * n ≤ room
+unfolding sizeCheck
+size-fits n room e = room-fits n room (check-passed-test (ltb 16384 (4 * n)) _ _ _ e .1)
 
 module _ (text out : List ℕ) where
   refused-call : (n p : ℕ) (r : Binarized) → (n ≡ 0 → ⊥) → binarizeCheck text out ≡ refused n p → r ≡ refusal n p →
@@ -49,7 +51,7 @@ module _ (text out : List ℕ) where
         counted = ap length (sym (to .written walk-passed)) ∙ first-counted written (w .count) within
 
         module _ (last : Checked)
-            (last-is : last ≡ orElse (missing (textRecords text)) (roomCheck (w .count) (length out))) where
+            (last-is : last ≡ orElse (missing (textRecords text)) (sizeCheck (w .count) (length out))) where
           last-decides : binarizeCheck text out ≡ last
           unfolding binarizeCheck
           last-decides =
@@ -72,7 +74,7 @@ module _ (text out : List ℕ) where
             part-fits : length part ≤ length out
             part-fits =
                 let (_, room) = both-pass (missing (textRecords text)) _ (rw last-is at last-passed) in
-                omega (arith, part-long, room-fits _ _ room)
+                omega (arith, part-long, size-fits _ _ room)
 
             succeeded : (job : List ℕ) → job ≡ part ++ drop (length part) out →
                 binarizeLeaves (record { number = 0; place = 0; records = w .count }) job ≡ binarizeOf text out

@@ -4,7 +4,7 @@ use Rattle.grammar.proofs.Basics.{_≡_, refl, _∙_, sym, ap, _≤_, _-_, _*_,
 use native.Mathlib.Nat.{sub-zero}
 use Rattle.job.specs.Format.{recordsOf}
 use Rattle.job.proofs.Records.{records-counted}
-use Rattle.binarize.proofs.Bytes.{records-in-front}
+use Rattle.job.proofs.Bytes.{records-in-front}
 use Rattle.binarize.specs.Inside.Parts.{faultOf}
 use Rattle.binarize.proofs.WrittenFault.{Tried, fault-found, tried-more, no-fault, all-counted}
 use Rattle.binarize.proofs.walk.check_from.Statement.{statement}

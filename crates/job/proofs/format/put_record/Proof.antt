@@ -1,8 +1,8 @@
 -- Four stores, at the next places one by one. Assumes nothing.
 use Rattle.grammar.proofs.Basics.{arith, length-set, needs}
-use Rattle.binarize.proofs.Buffer.{stored}
-use Rattle.binarize.proofs.convert.put_record.Statement.{statement}
-use Rattle.binarize.proofs.convert.put_record.Tie as tie
+use Rattle.job.proofs.Bytes.{stored}
+use Rattle.job.proofs.format.put_record.Statement.{statement}
+use Rattle.job.proofs.format.put_record.Tie as tie
 
 pub put-record-spec : {M : Type 1} → statement M
 put-record-spec =
@@ -10,4 +10,4 @@ put-record-spec =
     (tie.spec (λ c. search needs) (λ c. search needs) (λ c. search needs) (λ c. simp length-set (omega arith))
     (λ c. search needs) (λ c. simp length-set (omega arith)) (λ c. search needs)
     (λ c. simp length-set (omega arith)) (λ c. search needs)
-    (λ c. stored _ _ _ _ _ _ (c .pre .0) (c .pre .1)))
+    (λ c. stored _ _ (c .pre) _ _ _ _))

@@ -1,0 +1,15 @@
+pub mod UsefulDerivations
+pub mod Renumbered
+pub mod Numbering
+pub mod CleanRules
+pub mod SameLanguage
+pub mod CleanRange
+pub mod CopyAgain
+pub mod EmptyLanguage
+pub mod SameGrammar
+pub mod RisingCopy
+pub mod CopyAccepted
+pub mod Copied
+pub mod CopyRecords
+pub mod KeptKeys
+pub mod Writing

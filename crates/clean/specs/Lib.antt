@@ -1,0 +1,4 @@
+pub mod Copy
+pub mod Operation
+pub mod Inside
+pub mod Theorems
