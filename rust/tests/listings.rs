@@ -5,7 +5,7 @@ mod support;
 use ropeclover::listing::{Reason, Record, Transition};
 use ropeclover::{Explanation, Workspace};
 use std::collections::HashMap;
-use support::jobs::{self, Pairs};
+use support::jobs::{self, chain_of_reasons, Pairs};
 use support::seed;
 
 /// The given symbols that a transition derives, by the records before it; long ones are cut off.
@@ -94,29 +94,11 @@ fn listings_by_terminals_in_pairs_replay_into_derivations() {
     }
 }
 
-/// A chain of reasons over 20,000 long, in a thread with a small stack. Variable k < 27 walks along the states r of (q, k, r) by k → k 29, and at
-/// state 31 goes on to variable k + 1 at state 0; from variable 26 the walk goes on at q + 1, by 27 → 28 26 and 0 → 27. So each transition
-/// rests on the one before, from (0, 0, 0), which is given, to (31, 26, 31).
+/// The listing of a long chain of reasons replays whole; rust/tests/stack.rs makes it on a small stack.
 #[test]
-fn a_long_chain_of_reasons_needs_no_stack() {
-    let mut job: Vec<u8> = vec![b'S', 26, 0, 0, b'I', 31, 0, 0, b'F', 31, 0, 0, b'T', 0, 0, 0, b'T', 31, 30, 0];
-    for k in 0..27 {
-        job.extend([b'P', k, k, 29]);
-    }
-    for k in 0..26 {
-        job.extend([b'P', k + 1, k, 30]);
-    }
-    job.extend([b'P', 27, 28, 26, b'U', 0, 27, 0]);
-    for q in 0..31 {
-        job.extend([b'T', q, 29, q + 1, b'T', q + 1, 28, q]);
-    }
-    let explanation = std::thread::Builder::new()
-        .stack_size(1024 * 1024)
-        .spawn(move || Workspace::new().explain(&job, &[26]).map(|explanation| (job, explanation)).unwrap())
-        .unwrap()
-        .join()
-        .unwrap();
-    let (job, explanation) = explanation;
+fn a_long_chain_of_reasons() {
+    let job = chain_of_reasons();
+    let explanation = Workspace::new().explain(&job, &[26]).unwrap();
     assert!(explanation.records.len() > 20_000);
     replay(&job, &explanation.records);
 }

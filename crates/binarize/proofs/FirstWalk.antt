@@ -2,9 +2,9 @@
 -- the text has whole records within the limit. By recursion on the records. Assumes nothing.
 use Rattle.grammar.proofs.Basics.{_≡_, false, List, _∷_, [], List·Memᴰ, List·Memᴰ·head, List·Memᴰ·tail, _++_, ℕ, _≤_}
 use Rattle.grammar.proofs.Basics.{_%_, eqb, length, eqb-true, eqb-false, ltb-false, not-false, cases}
+use Rattle.grammar.proofs.NoRepeat.{member-at}
 use Rattle.job.proofs.Accepted.{check-passed-test}
 use Rattle.job.proofs.Shapes.{test-passed}
-use Rattle.job.proofs.NoRepeat.{member-at}
 use Rattle.binarize.specs.Dialect.{textRecords}
 use Rattle.binarize.specs.Check.{isSecond, formFault, fault, firstFault, textCheck}
 use Rattle.binarize.specs.Inside.Parts.{AllFormed}

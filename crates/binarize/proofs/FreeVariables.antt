@@ -4,7 +4,7 @@ use Rattle.grammar.proofs.Basics.{List·Memᴰ·append-cases, append-nil, ℕ, 
 use Rattle.grammar.proofs.Basics.{List·Memᴰ·head, List·Memᴰ·tail, suc, zero, arith, length, ltb-true, ltb-false, cases}
 use lib.ListN.{List·getD-eq-default}
 use Rattle.grammar.specs.Counting.{NoRepeat}
-use Rattle.job.proofs.NoRepeat.{member-at}
+use Rattle.grammar.proofs.NoRepeat.{member-at}
 use Rattle.binarize.specs.Fresh.{isNamed, unnamedBelow, freeIn}
 use Rattle.binarize.specs.Walk.{inTurn}
 

@@ -11,8 +11,6 @@ pub mod Taken
 pub mod Adds
 pub mod Kept
 pub mod ConversionSteps
-pub mod Standing
-pub mod StandFor
 pub mod Meaning
 pub mod RuleKinds
 pub mod Naming

@@ -6,13 +6,13 @@ use Rattle.grammar.proofs.Basics.{List·Memᴰ·head, List·Memᴰ·tail, List�
 use Rattle.grammar.proofs.Basics.{List·Memᴰ·eq-of-singleton, ℕ, add-zero, add-one, arith, cases}
 use Rattle.grammar.specs.Rule.{Productions, head, body}
 use Rattle.grammar.specs.Derivation.{Derives, none}
+use Rattle.grammar.proofs.Standing.{stringOf}
 use Rattle.job.specs.declared.JobRecord.{JobRecord}
 use Rattle.job.specs.Format.{isRule}
 use Rattle.job.specs.Job.{ruleOf, emptyRecord, unitRecord, pairRecord}
 use Rattle.binarize.specs.Dialect.{isLong, headOf, bodyOf, shortOf}
 use Rattle.binarize.specs.Convert.{Conversion, write, takeOne, split}
 use Rattle.binarize.specs.Convert.{convert}
-use Rattle.binarize.proofs.Standing.{stringOf}
 use Rattle.binarize.proofs.Converted.{converts}
 use Rattle.binarize.proofs.Taken.{tails, recordStrings, allStrings, Stand, stand-first, stand-rest}
 use Rattle.binarize.proofs.Taken.{convert-taken}

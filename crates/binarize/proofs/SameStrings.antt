@@ -2,11 +2,13 @@
 -- derivation by the job; and where each taken variable stands for its string, each rule of the job is a derivation by
 -- the text. Named symbols and terminals stand for themselves. Assumes nothing.
 use Rattle.grammar.proofs.Basics.{_≡_, refl, true, false, List, _∷_, [], List·Memᴰ, List·Memᴰ·not-nil, List·Memᴰ·head}
-use Rattle.grammar.proofs.Basics.{List·Memᴰ·tail, ℕ, _≤_, arith, length, true-and-false, _↔_}
+use Rattle.grammar.proofs.Basics.{List·Memᴰ·tail, ℕ, _≤_, zero-add, arith, length, true-and-false, _↔_}
 use Rattle.grammar.specs.Symbol.{Terminals}
 use Rattle.grammar.specs.Rule.{head, body, ProductionsOf, Among}
 use Rattle.grammar.specs.Derivation.{Derives, none}
 use Rattle.grammar.proofs.Derivations.{derives-production}
+use Rattle.grammar.proofs.Standing.{each-derives, stringOf, standing-derives}
+use Rattle.grammar.proofs.StandFor.{standFor, other-stands, member-stands, self-string}
 use Rattle.job.specs.Job.{ruleOf, jobOf, jobOfRecords}
 use Rattle.binarize.specs.Dialect.{textRecords, isLong, headOf, bodyOf, shortOf}
 use Rattle.binarize.specs.Fresh.{names, isNamed, freeIn}
@@ -14,13 +16,11 @@ use Rattle.binarize.specs.Convert.{Conversion}
 use Rattle.binarize.specs.Walk.{inTurn, noneConverted, walked}
 use Rattle.binarize.specs.Productions.{TextProductions, of-long, of-short}
 use Rattle.binarize.specs.Theorems.Written.{SameStrings}
-use Rattle.binarize.proofs.Standing.{each-derives, stringOf, standing-derives}
 use Rattle.binarize.proofs.Converted.{converts, converts-written}
-use Rattle.binarize.proofs.Taken.{allStrings, all-taken}
+use Rattle.binarize.proofs.Taken.{Stand, allStrings, all-taken}
 use Rattle.binarize.proofs.Meaning.{Meant, Right, Says, all-right}
 use Rattle.binarize.proofs.Deriving.{Derived, all-derived}
 use Rattle.binarize.proofs.FreeVariables.{free-member, free-distinct}
-use Rattle.binarize.proofs.StandFor.{standFor, other-stands, all-stand, self-string}
 use Rattle.binarize.proofs.Naming.{names-named, long-names, rule-not-long, rule-names}
 use Rattle.binarize.proofs.JobRules.{record-production, production-record}
 use Rattle.binarize.proofs.Success.{success-passes, records-left}
@@ -82,10 +82,14 @@ module _ (rs : List (List ℕ)) where
           rule = rule-meant r m;
         }
 
+    taken-stand : Stand σ fresh 0 strings
+    taken-stand =
+        let free : length strings ≤ length (freeIn rs) =
+        omega (arith, enough, all-taken fresh rs noneConverted) in
+        record { at = λ j h. rw zero-add (member-stands (freeIn rs) strings j (free-distinct rs 32) free h) }
+
     right : Right P σ converted
-    right =
-        all-right P σ fresh rs noneConverted says (λ r m. absurd (List·Memᴰ·not-nil m))
-        (all-stand (freeIn rs) strings (free-distinct rs 32) (omega (arith, enough, all-taken fresh rs noneConverted)))
+    right = all-right P σ fresh rs noneConverted says (λ r m. absurd (List·Memᴰ·not-nil m)) taken-stand
 
     terminals-stand : (w : List ℕ) → Terminals w → (X : ℕ) → List·Memᴰ X w → σ X ≡ X ∷ []
     unfolding Terminals

@@ -21,7 +21,7 @@ fn is_unknown(bytes: &[u8]) -> bool
     if dialect::is_long(bytes) {
         return false;
     }
-    job::format::kind_row(bytes[0]) == 7
+    records::format::kind_row(bytes[0]) == 7
 }
 
 // 4: a head, a symbol or a field is outside its class.
@@ -35,7 +35,7 @@ fn is_misfit(bytes: &[u8]) -> bool
         }
         return !dialect::all_below(dialect::body(bytes), 64);
     }
-    job::format::bad_field(dialect::short_record(bytes)) != 0
+    records::format::bad_field(dialect::short_record(bytes)) != 0
 }
 
 // 15: a length over 8, or a padding or closing byte that is not zero.

@@ -36,7 +36,7 @@ fn split_long(
             second: body[k],
             third: tail,
         };
-        job::format::put_record(written, p.count + k, r);
+        records::format::put_record(written, p.count + k, r);
         variable = tail;
         k += 1;
     }
@@ -46,7 +46,7 @@ fn split_long(
         second: body[last],
         third: body[last + 1],
     };
-    job::format::put_record(written, p.count + last, r);
+    records::format::put_record(written, p.count + last, r);
     Progress {
         taken: p.taken + last,
         count: p.count + last + 1,
@@ -88,7 +88,7 @@ fn convert_long(
         (split (inTurn (now (free .entry))) head (now (body .entry)) (conversionOf p (now (written .entry)))) ⌝ }
 {
     if body.len() < 2 {
-        job::format::put_record(written, p.count, short_rule(head, body));
+        records::format::put_record(written, p.count, short_rule(head, body));
         return Progress {
             taken: p.taken,
             count: p.count + 1,
@@ -107,7 +107,7 @@ pub fn convert(bytes: &[u8], free: &[u8; SYMBOLS], written: &mut [u8], p: Progre
     if dialect::is_long(bytes) {
         return convert_long(dialect::body(bytes), bytes[1], free, written, p);
     }
-    job::format::put_record(written, p.count, dialect::short_record(bytes));
+    records::format::put_record(written, p.count, dialect::short_record(bytes));
     Progress {
         taken: p.taken,
         count: p.count + 1,

@@ -33,7 +33,7 @@ fn field_names(row: usize, field: usize, value: u8, v: u8) -> bool
     requires within { ⌜ (row < 7) × (field < 3) ⌝ }
     ensures says { λ ok. ⌜ ok ≡ fieldNames (classAt fieldClasses row field) value v ⌝ }
 {
-    if holds_symbol(job::format::field_class(row, field)) {
+    if holds_symbol(records::format::field_class(row, field)) {
         return value == v;
     }
     false
@@ -44,7 +44,7 @@ fn short_names(r: JobRecord, v: u8) -> bool
     requires known { ⌜ rowOf (r .kind) < 7 ⌝ }
     ensures says { λ ok. ⌜ ok ≡ shortNames r v ⌝ }
 {
-    let row = job::format::kind_row(r.kind);
+    let row = records::format::kind_row(r.kind);
     if field_names(row, 0, r.first, v) {
         return true;
     }

@@ -26,7 +26,7 @@ fn size_check(count: usize, room: usize) -> Checked
             place: needed,
         };
     }
-    job::check::room_check(count, room)
+    checks::check::room_check(count, room)
 }
 
 // The checks after the second walk: 8, 9, 2 and 13.

@@ -24,10 +24,10 @@ ghost use Rattle.binarize.specs.Inside.Parts.{faultOf, WalkedTo, written
 fn written_fault(seen: &[u8], rules: usize, r: JobRecord) -> usize
     ensures fault { λ n. ⌜ n ≡ faultOf (recordsOf (now (seen .entry))) rules r ⌝ }
 {
-    if job::lookup::has_record(seen, r) {
+    if records::lookup::has_record(seen, r) {
         return 5;
     }
-    if job::format::is_rule(r) {
+    if records::format::is_rule(r) {
         if job::RULES <= rules {
             return 7;
         }
@@ -47,13 +47,13 @@ fn check_from(records: &[u8], from: usize, rules: usize) -> RuleCount
     let mut rules = rules;
     let mut j = from;
     while j < count {
-        let r = job::format::record_at(records, j);
+        let r = records::format::record_at(records, j);
         let at = 4 * j;
         let number = written_fault(&records[0..at], rules, r);
         if number != 0 {
             return RuleCount { number, rules };
         }
-        rules += job::one_if(job::format::is_rule(r)) as usize;
+        rules += records::one_if(records::format::is_rule(r)) as usize;
         j += 1;
     }
     RuleCount { number: 0, rules }

@@ -1,14 +1,14 @@
 // The done count, of a bit table alone.
 use crate::BITS_BYTES;
-use crate::Counted;
 use crate::DONE_HALF;
 use crate::table;
-use saturation::ROWS;
+use bit_machine::Counted;
+use transitions::ROWS;
 ghost use mathlib.Core.Path.{_≡_};
 ghost use Prim.Native.Nat.{_≤_};
 ghost use lib.ListN.{length};
-ghost use Rattle.bits.specs.BitTable.{bitsSize, doneBits};
-ghost use Rattle.bits.specs.Operations.{doneCountOf};
+ghost use Rattle.bit_machine.specs.BitTable.{bitsSize, doneBits};
+ghost use Rattle.bit_machine.specs.Operations.{doneCountOf};
 
 // The ones of the done half, word by word.
 pub fn count_ones(bits: &[u8]) -> u64

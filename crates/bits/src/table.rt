@@ -6,10 +6,10 @@ ghost use mathlib.Core.Path.{_≡_};
 ghost use mathlib.Core.Bool.{true, false, not};
 ghost use Prim.Native.Nat.{ℕ, _+_, _*_, _%_, _<_, _≤_};
 ghost use lib.ListN.{length, getD, set};
-ghost use Rattle.saturation.specs.Table.{lentOf, tableSize, reasonsSize, isAbsent, isPending, isDone};
-ghost use Rattle.saturation.specs.Inside.Offers.{VariablePlace, reasonPlaceOf, offerAt, addOffer};
-ghost use Rattle.bits.specs.BitTable.{bitsSize, bitOf, bitAt, bytesOf};
-ghost use Rattle.bits.specs.Inside.Change.{RowWritten, BitSet, Kept};
+ghost use Rattle.machine.specs.Table.{lentOf, tableSize, reasonsSize, isAbsent, isPending, isDone};
+ghost use Rattle.machine.specs.Inside.Offers.{VariablePlace, reasonPlaceOf, offerAt, addOffer};
+ghost use Rattle.bit_machine.specs.BitTable.{bitsSize, bitOf, bitAt, bytesOf};
+ghost use Rattle.bit_machine.specs.Inside.Change.{RowWritten, BitSet, Kept};
 
 // Whether a place has its bit in a half.
 pub fn has_bit(bits: &[u8], half: usize, place: usize) -> bool
@@ -47,7 +47,7 @@ pub fn row(bits: &[u8], half: usize, k: usize) -> u32
 
 // Writes the 32 bits of a row in a half: one store, which the next load of the row need not wait for, as it would for
 // that of a byte.
-fn write_row(bits: &mut [u8], half: usize, k: usize, word: u32)
+pub fn write_row(bits: &mut [u8], half: usize, k: usize, word: u32)
     requires within { ⌜ (half < 2) × (k < 2048) × (bitsSize ≤ length (now bits)) ⌝ }
     ensures written { λ _. ⌜ RowWritten (now (bits .entry)) (now (bits .exit)) half k word ⌝ }
 {

@@ -1,6 +1,6 @@
 // The ones of a word, lowest first.
 ghost use Prim.Native.Nat.{_≤_};
-ghost use Rattle.bits.specs.Inside.Word.{First, WithoutFirst};
+ghost use Rattle.bit_machine.specs.Inside.Word.{First, WithoutFirst};
 
 // Which bit of a word is its first one, 32 where it has none.
 pub fn first_one(word: u32) -> usize

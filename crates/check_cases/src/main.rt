@@ -21,11 +21,11 @@ fn write_bytes(part: &[u8]) {
 
 // Writes the answer on a job. `needed`: whether an I record is needed; showing never needs one.
 fn report(job: &[u8], needed: bool) {
-    let c = job::check::check(job, job::show::full_limits(), needed);
+    let c = checks::check::check(job, checks::show::full_limits(), needed);
     io::print_decimal(1, c.number as u64);
     io::write_all(1, b" ");
     io::print_decimal(1, c.place as u64);
-    write_bytes(job::show::show_refused(job));
+    write_bytes(checks::show::show_refused(job));
     io::write_all(1, b"\n");
 }
 

@@ -3,8 +3,8 @@
 use Rattle.grammar.proofs.Basics.{Bool, List, ℕ, _<_, arith}
 use Rattle.grammar.specs.Rule.{Rule, empty, unit, pair}
 use Rattle.job.specs.Theorems.InRange.{RuleInRange}
-use Rattle.verdicts.specs.Verdicts.{useful}
-use Rattle.verdicts.specs.Theorems.Meant.{RulesInRange}
+use Rattle.usefulness.specs.Usefulness.{useful}
+use Rattle.job.specs.Theorems.InRange.{RulesInRange}
 use Rattle.clean.specs.Copy.{newNumber, renumbered, cleanStart, cleanRules}
 use Rattle.clean.proofs.Numbering.{new-at-most}
 use Rattle.clean.proofs.CleanRules.{each-clean}

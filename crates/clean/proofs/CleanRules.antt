@@ -3,14 +3,14 @@ use Rattle.grammar.proofs.Basics.{_≡_, true, List, Memᴰ·of-map, ℕ, and-l
 use mathlib.Core.List.{Memᴰ·map}
 use Rattle.grammar.specs.Rule.{Rule, Among, head}
 use Rattle.grammar.specs.Useful.{UsefulRules}
-use Rattle.verdicts.specs.Sets.{allIn, ruleIn}
-use Rattle.verdicts.specs.Verdicts.{useful, usefulRules}
-use Rattle.verdicts.specs.Theorems.Meant.{RulesInRange}
-use Rattle.verdicts.proofs.Tests.{within-among}
-use Rattle.verdicts.proofs.KeyRules.{range-below}
-use Rattle.verdicts.proofs.Papers.{useful-is, useful-rules-are}
+use Rattle.usefulness.specs.Sets.{allIn, ruleIn}
+use Rattle.usefulness.specs.Usefulness.{useful, usefulRules}
+use Rattle.job.specs.Theorems.InRange.{RulesInRange}
+use Rattle.usefulness.proofs.Tests.{within-among}
+use Rattle.usefulness.proofs.Bodies.{range-below}
+use Rattle.usefulness.proofs.Papers.{useful-is, useful-rules-are}
 use Rattle.clean.specs.Copy.{newNumber, renumbered, cleanRules}
-use Rattle.clean.proofs.UsefulDerivations.{useful-start}
+use Rattle.grammar.proofs.UsefulDerivations.{useful-start}
 
 module _ (rules : List Rule) (S : ℕ) where
   -- what holds of the useful rules under their new numbers holds of the clean rules

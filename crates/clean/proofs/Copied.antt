@@ -13,7 +13,7 @@ use Rattle.job.proofs.Accepted.{number-accepted, accepted-check, check-accepts}
 use Rattle.job.proofs.JobChecks.{room-fits}
 use Rattle.job.proofs.AcceptedFacts.{in-range, start-below}
 use Rattle.job.proofs.Bytes.{bytes-counted, records-of-bytes}
-use Rattle.verdicts.specs.Theorems.Meant.{RulesInRange}
+use Rattle.job.specs.Theorems.InRange.{RulesInRange}
 use Rattle.clean.specs.Copy.{cleanRules, cleanStart, cleanRecords}
 use Rattle.clean.specs.Operation.{CleanOutcome, cleanBy, cleanOf, cleanOn, cleanRefused, recordsWritten}
 use Rattle.clean.specs.Theorems.Copies.{copyOf, Succeeds, CopyFits, CopyAccepted, CopyInOrder, SameLanguage}

@@ -1,6 +1,6 @@
 -- A copy is an accepted job whose rules and start symbol are the clean ones: S, and then rules in range that rise, are
 -- sorted as they stand, and none stands twice. Assumes nothing.
-use Rattle.grammar.proofs.Basics.{_≡_, refl, ap, ap₂, ⊎-elim, true, false, Bool, List, _∷_, [], List·Memᴰ, map}
+use Rattle.grammar.proofs.Basics.{_≡_, refl, ap, ap₂, ⊎-elim, false, Bool, List, _∷_, [], List·Memᴰ, map}
 use Rattle.grammar.proofs.Basics.{List·Memᴰ·head, List·Memᴰ·cases-cons, Memᴰ·of-map, ℕ, _<_, _≤_, le-of-lt, arith}
 use Rattle.grammar.proofs.Basics.{length, length-map, lt-ltb, le-leb, cases, false≢true, true-and-false}
 use Rattle.grammar.specs.Rule.{Rule, empty, unit, pair}
@@ -15,9 +15,9 @@ use Rattle.job.proofs.Bytes.{records-of-bytes, bytes-counted}
 use Rattle.job.proofs.Insertion.{rules-counted}
 use Rattle.job.proofs.Ranks.{Rising}
 use Rattle.job.proofs.AcceptedFacts.{in-range, start-below}
-use Rattle.verdicts.specs.Sets.{ruleIn, within}
-use Rattle.verdicts.specs.Theorems.Meant.{RulesInRange}
-use Rattle.verdicts.specs.Verdicts.{useful, usefulRules}
+use Rattle.usefulness.specs.Sets.{ruleIn, within}
+use Rattle.job.specs.Theorems.InRange.{RulesInRange}
+use Rattle.usefulness.specs.Usefulness.{useful, usefulRules}
 use Rattle.clean.specs.Copy.{newNumber, renumbered, cleanStart, cleanRules, cleanRecords}
 use Rattle.clean.proofs.CleanRange.{clean-in-range, clean-start-below}
 use Rattle.clean.proofs.RisingCopy.{copy-rising}

@@ -3,13 +3,13 @@
 use Rattle.grammar.proofs.Basics.{_≡_, refl, true, Bool, List, _∷_, [], List·Memᴰ·head, List·Memᴰ·tail, map, ℕ}
 use Rattle.grammar.specs.Rule.{Rule, Among}
 use Rattle.grammar.specs.Useful.{UsefulRules}
-use Rattle.verdicts.specs.Sets.{ruleIn, within}
-use Rattle.verdicts.specs.Verdicts.{useful}
-use Rattle.verdicts.specs.Theorems.Meant.{RulesInRange}
-use Rattle.verdicts.proofs.KeyRules.{range-below}
-use Rattle.verdicts.proofs.Papers.{useful-is}
+use Rattle.usefulness.specs.Sets.{ruleIn, within}
+use Rattle.usefulness.specs.Usefulness.{useful}
+use Rattle.job.specs.Theorems.InRange.{RulesInRange}
+use Rattle.usefulness.proofs.Bodies.{range-below}
+use Rattle.usefulness.proofs.Papers.{useful-is}
 use Rattle.clean.specs.Copy.{newNumber, renumbered, cleanStart, cleanRules}
-use Rattle.clean.proofs.UsefulDerivations.{useful-by-useful}
+use Rattle.grammar.proofs.UsefulDerivations.{useful-by-useful}
 use Rattle.clean.proofs.Renumbered.{renumbered-useful, renumbered-twice, renumbered-in}
 use Rattle.clean.proofs.Numbering.{new-terminal, new-again}
 use Rattle.clean.proofs.CleanRules.{each-clean, useful-clean}

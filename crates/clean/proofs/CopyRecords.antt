@@ -1,7 +1,8 @@
 -- The records that the code writes, by flags and tables of numbers, are those of the clean copy. Assumes nothing.
 use Rattle.grammar.proofs.Basics.{_≡_, refl, _∙_, sym, ap, ap₂, Bool, cond, List, _∷_, [], _++_, List·Memᴰ·head}
-use Rattle.grammar.proofs.Basics.{List·Memᴰ·tail, map, ℕ, _<_, _≤_, _+_, _*_, arith, ltb, length, take, drop}
-use Rattle.grammar.proofs.Basics.{length-map, length-take-le}
+use Rattle.grammar.proofs.Basics.{List·Memᴰ·tail, map, ℕ, _<_, _≤_, _+_, _*_, arith, _-_, ltb, length, take, drop}
+use Rattle.grammar.proofs.Basics.{length-map}
+use native.Mathlib.Nat.{sub-zero}
 use Rattle.grammar.specs.Rule.{Rule, empty, unit, pair, head, body}
 use Rattle.grammar.proofs.Counting.{count-cong}
 use Rattle.grammar.proofs.Strings.{All, nil, cons}
@@ -9,32 +10,25 @@ use Rattle.job.specs.declared.Checked.{Checked}
 use Rattle.job.specs.Format.{bytesOf}
 use Rattle.job.specs.Check.{roomCheck}
 use Rattle.job.specs.Job.{startRecord, recordOf}
-use Rattle.job.specs.Inside.Keys.{ruleOfKey}
+use Rattle.job.specs.Inside.Keys.{ruleOfKey, rulesOfKeys}
 use Rattle.job.proofs.JobChecks.{room-fits}
-use Rattle.verdicts.specs.Sets.{within}
-use Rattle.verdicts.specs.Verdicts.{useful, usefulRules}
-use Rattle.verdicts.specs.Inside.Flags.{Flags, flagged, Keys, rulesOfKeys}
-use Rattle.verdicts.proofs.Rounds.{Below}
-use Rattle.verdicts.proofs.Raising.{flags-test}
-use Rattle.verdicts.proofs.Tests.{all-same, within-among}
+use Rattle.usefulness.specs.Usefulness.{useful, usefulRules}
+use Rattle.usefulness.specs.Inside.Flags.{Flags, flagged}
+use Rattle.usefulness.specs.Inside.Kept.{Kept}
+use Rattle.usefulness.proofs.Rounds.{Below}
+use Rattle.usefulness.proofs.Raising.{flags-test}
+use Rattle.usefulness.proofs.Tests.{within-among}
+use Rattle.usefulness.proofs.KeptKeys.{kept-long}
 use Rattle.clean.specs.Copy.{newNumber, renumbered, cleanStart, cleanRules, cleanRecords}
 use Rattle.clean.specs.Operation.{cleanOn, cleanLeaves, refusal}
 use Rattle.clean.specs.Inside.Parts.{Numbers, numberIn, ruleRecords, copyRecords}
 use Rattle.clean.proofs.Copied.{clean-written, no-room}
 
--- two sets with the same symbols below 64 keep the same rules, and give the same new numbers
-module _ (s t : ℕ → Bool) (same : (X : ℕ) → X < 64 → s X ≡ t X) where
-  within-same : (rules : List Rule) → Below 64 rules → within s rules ≡ within t rules
-  unfolding within
-  within-same [] below = refl
-  within-same (ρ ∷ ρs) below =
-      rw (all-same same (below ρ (List·Memᴰ·head refl)), within-same ρs (λ σ m. below σ (List·Memᴰ·tail m)))
+-- two sets with the same symbols below 64 give the same new numbers
+number-same : (s t : ℕ → Bool) → ((X : ℕ) → X < 64 → s X ≡ t X) → (X : ℕ) → X < 64 → newNumber s X ≡ newNumber t X
+number-same s t same X l = ap (λ (n : ℕ). cond (ltb X 32) n X) (count-cong s t X (λ i h. same i (omega arith)))
 
-  number-same : (X : ℕ) → X < 64 → newNumber s X ≡ newNumber t X
-  number-same X l =
-      ap (λ (n : ℕ). cond (ltb X 32) n X) (count-cong s t X (λ i h. same i (omega arith)))
-
--- and two numberings that agree below 64 give the same records
+-- two numberings that agree below 64 give the same records
 module _ (f g : ℕ → ℕ) (same : (X : ℕ) → X < 64 → f X ≡ g X) where
   rule-same : (ρ : Rule) → All (λ X. X < 64) (head ρ ∷ body ρ) → renumbered f ρ ≡ renumbered g ρ
   rule-same (empty A) (cons a nil) = ap empty (same A a)
@@ -48,12 +42,9 @@ module _ (f g : ℕ → ℕ) (same : (X : ℕ) → X < 64 → f X ≡ g X) where
       ap₂ _∷_ (ap recordOf (rule-same ρ (below ρ (List·Memᴰ·head refl))))
       (records-same ρs (λ σ m. below σ (List·Memᴰ·tail m)))
 
-module _ (rules : List Rule) (S : ℕ) (below : Below 64 rules) (flags : List ℕ) (held : Flags (useful rules S) flags)
-    (kept : List ℕ) (m : ℕ) (keys : Keys kept m) (is : rulesOfKeys kept m ≡ within (flagged flags) rules)
-    (out : List ℕ) where
-  kept-useful : rulesOfKeys kept m ≡ usefulRules rules S
-  kept-useful = is ∙ within-same (flagged flags) (useful rules S) (flags-test held) rules below
-
+-- the rules of the m keys kept are the useful ones
+module _ (rules : List Rule) (S : ℕ) {array : List ℕ} {m : ℕ} (kept : Kept array m)
+    (is : rulesOfKeys (take m array) ≡ usefulRules rules S) (out : List ℕ) where
   counted : length (cleanRecords rules S) ≡ m + 1
   unfolding cleanRecords cleanRules
   counted =
@@ -61,31 +52,34 @@ module _ (rules : List Rule) (S : ℕ) (below : Below 64 rules) (flags : List �
         arith,
         length-map (cleanRules rules S) recordOf,
         length-map (usefulRules rules S) (renumbered (newNumber (useful rules S))),
-        ap length kept-useful,
-        length-map (take m kept) ruleOfKey,
-        length-take-le m kept (keys .long),
+        ap length is,
+        length-map (take m array) ruleOfKey,
+        kept-long kept,
       )
 
   pub room-refused : (c : Checked) → c ≡ roomCheck (m + 1) (length out) → (c .number ≡ 0 → ⊥) →
       cleanLeaves (refusal c) out ≡ cleanOn rules S out
   room-refused c e d = sym (no-room rules S out c (rw counted e) d)
 
-  module _ (start : S < 64) (numbers : List ℕ) (numbered : Numbers (flagged flags) numbers) where
+  module _ (below : Below 64 rules) (start : S < 64) (flags numbers : List ℕ) (held : Flags (useful rules S) flags)
+      (numbered : Numbers (flagged flags) numbers) where
     numbers-new : (X : ℕ) → X < 64 → numberIn numbers X ≡ newNumber (useful rules S) X
     numbers-new X l = numbered .at X l ∙ number-same (flagged flags) (useful rules S) (flags-test held) X l
 
-    records : copyRecords numbers S (rulesOfKeys kept m) ≡ cleanRecords rules S
+    records : copyRecords numbers S (rulesOfKeys (take m array)) ≡ cleanRecords rules S
     unfolding cleanRecords cleanStart cleanRules
     records =
         ap₂ _∷_ (ap startRecord (numbers-new S start))
-        (ap (ruleRecords numbers) kept-useful
+        (ap (ruleRecords numbers) is
         ∙ records-same (numberIn numbers) (newNumber (useful rules S)) numbers-new (usefulRules rules S)
         (λ ρ n. below ρ (within-among (useful rules S) rules ρ n .0)))
 
     pub all-copied : (after : List ℕ) → roomCheck (m + 1) (length out) .number ≡ 0 →
-        after ≡ bytesOf (copyRecords numbers S (rulesOfKeys kept m)) ++ drop (4 * m + 4) out →
+        after
+        ≡ bytesOf (copyRecords numbers S (rulesOfKeys (take (m - 0) array)))
+        ++ drop (4 * length (take (m - 0) array) + 4) out →
         cleanLeaves (record { number = 0; place = 0; records = m + 1 }) after ≡ cleanOn rules S out
     all-copied after e w =
         let four : 4 * m + 4 ≡ 4 * (m + 1) = omega arith in
         let fits : 4 * length (cleanRecords rules S) ≤ length out = rw counted (room-fits (m + 1) (length out) e) in
-        rw (w, records, four) (rw counted at (sym (clean-written rules S out fits)))
+        rw (w, sub-zero, kept-long kept, records, four) (rw counted at (sym (clean-written rules S out fits)))

@@ -6,10 +6,10 @@ use Rattle.grammar.specs.Language.{Language}
 use Rattle.grammar.proofs.Derivations.{derives-trans}
 use Rattle.grammar.proofs.Counting.{count-none}
 use Rattle.job.specs.Job.{startRecord}
-use Rattle.verdicts.specs.Verdicts.{useful}
-use Rattle.verdicts.specs.Theorems.Meant.{RulesInRange}
-use Rattle.verdicts.proofs.KeyRules.{range-below}
-use Rattle.verdicts.proofs.Papers.{useful-is}
+use Rattle.usefulness.specs.Usefulness.{useful}
+use Rattle.job.specs.Theorems.InRange.{RulesInRange}
+use Rattle.usefulness.proofs.Bodies.{range-below}
+use Rattle.usefulness.proofs.Papers.{useful-is}
 use Rattle.clean.specs.Copy.{cleanStart, cleanRules, cleanRecords}
 use Rattle.clean.proofs.CleanRules.{start-useful, clean-rule-useful}
 

@@ -1,4 +1,3 @@
-pub mod UsefulDerivations
 pub mod Renumbered
 pub mod Numbering
 pub mod CleanRules
@@ -11,5 +10,4 @@ pub mod RisingCopy
 pub mod CopyAccepted
 pub mod Copied
 pub mod CopyRecords
-pub mod KeptKeys
 pub mod Writing

@@ -7,7 +7,7 @@ use Rattle.grammar.specs.Rule.{Rule, Rules, ProductionsOf, of-rule, empty, unit
 use Rattle.grammar.specs.Derivation.{by-production, Derives, none, more}
 use Rattle.grammar.specs.Useful.{Useful}
 use Rattle.grammar.specs.Language.{Language}
-use Rattle.verdicts.specs.Sets.{allIn, ruleIn}
+use Rattle.usefulness.specs.Sets.{allIn, ruleIn}
 use Rattle.clean.specs.Copy.{renumbered}
 
 -- a function that keeps the terminals keeps their strings

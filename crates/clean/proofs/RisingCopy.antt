@@ -15,10 +15,10 @@ use Rattle.job.proofs.Shapes.{RuleShape, Bounds, rule-shape}
 use Rattle.job.proofs.RuleRecords.{record-again}
 use Rattle.job.proofs.Ranks.{Rising, sorted-member, sorted-rising}
 use Rattle.job.proofs.AcceptedFacts.{in-range}
-use Rattle.verdicts.specs.Sets.{allIn, ruleIn, within}
-use Rattle.verdicts.specs.Theorems.Meant.{RulesInRange}
-use Rattle.verdicts.specs.Verdicts.{useful}
-use Rattle.verdicts.proofs.Tests.{within-among}
+use Rattle.usefulness.specs.Sets.{allIn, ruleIn, within}
+use Rattle.job.specs.Theorems.InRange.{RulesInRange}
+use Rattle.usefulness.specs.Usefulness.{useful}
+use Rattle.usefulness.proofs.Tests.{within-among}
 use Rattle.clean.specs.Copy.{newNumber, renumbered, cleanRules}
 use Rattle.clean.proofs.Numbering.{count-past, new-at-most}
 

@@ -7,10 +7,10 @@ use Rattle.grammar.specs.Rule.{Rule, Rules, Among, ProductionsOf, of-rule}
 use Rattle.grammar.specs.Derivation.{by-production, Derives, none, more}
 use Rattle.grammar.specs.Useful.{UsefulRules}
 use Rattle.grammar.specs.Language.{Language}
-use Rattle.verdicts.specs.Verdicts.{useful}
-use Rattle.verdicts.specs.Theorems.Meant.{RulesInRange}
+use Rattle.usefulness.specs.Usefulness.{useful}
+use Rattle.job.specs.Theorems.InRange.{RulesInRange}
 use Rattle.clean.specs.Copy.{newNumber, renumbered, cleanStart, cleanRules}
-use Rattle.clean.proofs.UsefulDerivations.{useful-derives}
+use Rattle.grammar.proofs.UsefulDerivations.{useful-derives}
 use Rattle.clean.proofs.Renumbered.{renumbered-language, renumbered-twice, renumbered-self}
 use Rattle.clean.proofs.Numbering.{oldNumber, old-terminal, new-terminal, new-at-most, old-new}
 use Rattle.clean.proofs.CleanRules.{each-clean, useful-clean, clean-rule-useful}

@@ -4,13 +4,12 @@ use Rattle.grammar.proofs.Basics.{_*_, arith, length, getD, take, drop, length-
 use Rattle.grammar.proofs.Basics.{length-take-le, take-at}
 use mathlib.Core.List.{map-append}
 use lib.ListN.{take-append-drop}
-use lib.Seq.{drop-at, drop-drop}
+use lib.Seq.{drop-at, drop-drop, take-all}
 use Rattle.job.specs.declared.JobRecord.{JobRecord}
 use Rattle.job.specs.Format.{bytesOf}
-use Rattle.job.specs.Inside.Keys.{ruleOfKey}
+use Rattle.job.specs.Inside.Keys.{ruleOfKey, rulesOfKeys}
 use Rattle.job.proofs.Bytes.{bytes-counted, bytes-append}
-use Rattle.verdicts.specs.Inside.Flags.{rulesOfKeys}
-use Rattle.verdicts.proofs.KeyRules.{rules-more}
+use Rattle.job.proofs.KeyRules.{rules-more}
 use Rattle.clean.specs.Inside.Parts.{renumberedRecord, ruleRecords}
 
 -- what stands past the front, k bytes further
@@ -33,17 +32,17 @@ put-behind front before i r e is put =
 module _ (numbers kept before : List ℕ) where
   -- the first record of the buffer, and the records of the first k rules
   abbrev front : ℕ → List ℕ
-  front k = take 4 before ++ bytesOf (ruleRecords numbers (rulesOfKeys kept k))
+  front k = take 4 before ++ bytesOf (ruleRecords numbers (rulesOfKeys (take k kept)))
 
   abbrev pub RulesWritten : List ℕ → ℕ → Type 0
   RulesWritten out k = out ≡ front k ++ drop (4 * (k + 1)) before
 
   -- all of them
-  pub all-written : (out : List ℕ) (k m : ℕ) → k ≡ m → RulesWritten out k →
-      out ≡ take 4 before ++ (bytesOf (ruleRecords numbers (rulesOfKeys kept m)) ++ drop (4 * m + 4) before)
-  all-written out k m e w =
-      let next : 4 * (m + 1) ≡ 4 * m + 4 = omega arith in
-      w ∙ rw (e, next) (append-assoc (take 4 before) _ _)
+  pub all-written : (out : List ℕ) (k : ℕ) → k ≡ length kept → RulesWritten out k →
+      out ≡ take 4 before ++ (bytesOf (ruleRecords numbers (rulesOfKeys kept)) ++ drop (4 * length kept + 4) before)
+  all-written out k e w =
+      let next : 4 * (k + 1) ≡ 4 * length kept + 4 = omega arith in
+      w ∙ rw (next, take-all k kept (omega arith)) (append-assoc (take 4 before) _ _)
 
   module _ (room : 4 ≤ length before) where
     front-long : (k : ℕ) → k ≤ length kept → length (front k) ≡ 4 * (k + 1)
@@ -52,8 +51,8 @@ module _ (numbers kept before : List ℕ) where
         ∙ omega (
           arith,
           length-take-le 4 before room,
-          bytes-counted (ruleRecords numbers (rulesOfKeys kept k)),
-          length-map (rulesOfKeys kept k) (renumberedRecord numbers),
+          bytes-counted (ruleRecords numbers (rulesOfKeys (take k kept))),
+          length-map (rulesOfKeys (take k kept)) (renumberedRecord numbers),
           length-map (take k kept) ruleOfKey,
           length-take-le k kept h,
         )
@@ -73,7 +72,7 @@ module _ (numbers kept before : List ℕ) where
     front-more k h =
         rw (
           rules-more kept k h,
-          map-append (renumberedRecord numbers) (rulesOfKeys kept k) (ruleOfKey (getD kept k 0) ∷ []),
+          map-append (renumberedRecord numbers) (rulesOfKeys (take k kept)) (ruleOfKey (getD kept k 0) ∷ []),
           bytes-append,
         )
         (sym (append-assoc (take 4 before) _ _))

@@ -7,7 +7,7 @@ use Rattle.grammar.specs.Rule.{Rule, empty, unit, pair}
 use Rattle.grammar.specs.Counting.{count}
 use Rattle.job.specs.declared.JobRecord.{JobRecord}
 use Rattle.job.specs.Job.{startRecord, recordOf}
-use Rattle.verdicts.specs.Verdicts.{useful, usefulRules}
+use Rattle.usefulness.specs.Usefulness.{useful, usefulRules}
 
 -- Clean copies: the new number of a variable is how many useful variables have a lower number; a terminal keeps its
 -- number

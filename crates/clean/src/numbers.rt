@@ -3,7 +3,7 @@ use job::SYMBOLS;
 ghost use mathlib.Core.Path.{_≡_};
 ghost use mathlib.Core.Bool.{cond};
 ghost use lib.Dec.{ltb};
-ghost use Rattle.verdicts.specs.Inside.Flags.{flagged, Bits};
+ghost use Rattle.usefulness.specs.Inside.Flags.{flagged, Bits};
 ghost use Rattle.clean.specs.Inside.Parts.{Numbers};
 
 // The new number of a symbol with so many useful variables below it.

@@ -13,7 +13,7 @@ fn codes(job: &[u8]) {
     let mut codes = [0u8; job::CODE_BYTES];
     let judged = verdicts::operation::verdicts(job, &mut table, &mut codes);
     let mut out = [0u8; TEXT_BYTES];
-    let written = text::operations::codes_text(judged.number, judged.place, &codes, &mut out);
+    let written = printing::operations::codes_text(judged.number, judged.place, &codes, &mut out);
     console::write_output(&out, written.bytes);
 }
 

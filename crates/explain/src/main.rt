@@ -102,8 +102,8 @@ fn print_explanation(job: &[u8], form: &[u8], out: &mut [u8]) {
     let mut table = [0u8; job::TABLE_BYTES];
     let mut reasons = [0u32; job::REASON_NUMBERS];
     let mut listing = [0u8; LISTING_BYTES];
-    let explained = forms::explain::explain(job, &mut table, &mut reasons, form, &mut listing);
-    let written = text::operations::explain_text(
+    let explained = explaining::explain(job, &mut table, &mut reasons, form, &mut listing);
+    let written = printing::operations::explain_text(
         explained.number,
         explained.place,
         explained.accepted,

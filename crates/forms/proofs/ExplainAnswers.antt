@@ -1,57 +1,69 @@
--- What explain answers on a finished table: the flag of the whole form at the initial state says whether there is a
+-- What explain answers on a finished table: the bit of the whole form at the initial state says whether there is a
 -- route to list. Assumes nothing.
-use Rattle.grammar.proofs.Basics.{_≡_, _∙_, sym, ap, true, false, List, ℕ, _<_, arith, length, getD, take, drop-length}
-use Rattle.grammar.proofs.Basics.{eq-eqb, ne-eqb}
+use Rattle.grammar.proofs.Basics.{_≡_, refl, _∙_, sym, ap, true, false, List, ℕ, _<_, _/_, arith, length, getD, take}
+use Rattle.grammar.proofs.Basics.{drop-length, eq-eqb, ne-eqb}
+use Prim.Native.Nat.{_^_}
+use lib.Bits.{bitAnd}
 use Rattle.job.specs.Job.{jobOf}
-use Rattle.saturation.specs.Table.{doneAt, lentOf}
-use Rattle.forms.specs.Acceptance.{canFinish, route}
+use Rattle.machine.specs.Table.{doneIn, doneAt, lentOf}
+use Rattle.bit_machine.specs.BitTable.{bitOf, bitStatuses}
+use Rattle.bit_machine.proofs.BitBytes.{bit-test}
+use Rattle.forms.specs.Acceptance.{SymbolsFit, canFinish, route}
 use Rattle.forms.specs.Operations.{acceptsOn, ExplainOutcome, explainLeaves, listedFor, explainListed}
 use Rattle.forms.specs.Operations.{explainFinished}
-use Rattle.forms.specs.Inside.AcceptanceParts.{flagged, flaggedAt, finalIn, FinishFlags}
-use Rattle.forms.specs.Inside.ExplainParts.{OnRoute}
-use Rattle.forms.proofs.Routes.{finish-cong, route-cong}
-use Rattle.forms.proofs.AskAnswers.{Filled, initial-state, initial-flag}
+use Rattle.forms.specs.Inside.AcceptanceParts.{finalOf, FinishWords}
+use Rattle.forms.specs.Inside.ExplainParts.{BitsSay, OnRoute}
+use Rattle.forms.proofs.Agreeing.{bits-agree, finish-agree, route-agree}
+use Rattle.forms.specs.Inside.AcceptanceParts.{Filled}
+use Rattle.forms.proofs.AskAnswers.{accepts-alike, state-below, initial-bit}
 
-module _ {job t form finish : List ℕ} {q : ℕ} (f : Filled job t form finish q) where
-  pub state-below : q < 32
-  state-below = omega (arith, f .initial, initial-state (f .ok))
-
-  -- the flags of the form's end are the job's final states
-  ends-agree : (s : ℕ) → s < 32 → finalIn form finish s ≡ jobOf job .final s
+module _ {job bits form finish : List ℕ} {q : ℕ} (f : Filled job bits form finish q) where
+  -- the word of the form's end has the job's final states
+  ends-agree : (s : ℕ) → s < 32 → finalOf form finish s ≡ jobOf job .final s
   unfolding canFinish
-  ends-agree s l = rw (drop-length form) at (f .flags (length form) s (omega arith) l)
+  ends-agree s l = rw (drop-length form) at (f .words (length form) s (omega arith) l)
 
-  -- no route
-  pub not-accepted : (rs out : List ℕ) → (getD finish q 0 ≡ 1 → ⊥) →
-      explainLeaves (record { number = 0; place = 0; accepted = false; records = 0 }) (lentOf t rs) out
-      ≡ explainFinished (jobOf job) (lentOf t rs) form out
-  unfolding explainFinished
-  not-accepted rs out none = rw (sym (initial-flag f) ∙ ne-eqb _ 1 none)
+  pub may-fill : bitAnd (getD finish 0 0 / 2 ^ q) 1 ≡ 1 →
+      FinishWords (finalOf form finish) bits form finish × (bitOf (getD finish 0 0) q ≡ true)
+  may-fill some = (
+    λ i s l below. f .words i s l below
+        ∙ sym (finish-agree _ _ ends-agree (doneIn (bitStatuses bits)) _ _ (λ j u v h m n. refl) s below),
+    sym (bit-test (getD finish 0 0) q) ∙ eq-eqb _ 1 some,
+  )
 
-  -- a route
-  module _ (some : getD finish q 0 ≡ 1) where
-    is-accepted : acceptsOn (jobOf job) t form ≡ true
-    is-accepted = sym (initial-flag f) ∙ eq-eqb _ 1 some
+  -- a table that says what the bits say
+  module _ (t : List ℕ) (same : BitsSay bits t) (fit : SymbolsFit form) where
+    accepts-bit : bitOf (getD finish 0 0) q ≡ acceptsOn (jobOf job) t form
+    accepts-bit = initial-bit f ∙ accepts-alike bits t form (f .ok) same fit
 
-    pub may-fill : FinishFlags (finalIn form finish) t form finish × (flaggedAt finish 0 q ≡ true)
-    may-fill = (
-      λ i s l below. f .flags i s l below
-          ∙ sym (finish-cong _ _ ends-agree (doneAt t) _ s below),
-      ap (λ k. flagged finish k) (omega arith) ∙ eq-eqb _ 1 some,
-    )
-
-    pub on-route : (places : List ℕ) → take (length form) places ≡ route (finalIn form finish) (doneAt t) form q →
-        OnRoute job t form places
-    on-route places e =
-        record {
-          accepts = is-accepted;
-          along = e
-              ∙ route-cong _ _ ends-agree (doneAt t) form q
-              ∙ ap (route _ (doneAt t) form) (f .initial);
-        }
-
-    pub explained : (rs out : List ℕ) (after : ExplainOutcome) →
-        after ≡ explainListed (jobOf job .rules) rs (listedFor (jobOf job) (lentOf t rs) form) out →
-        after ≡ explainFinished (jobOf job) (lentOf t rs) form out
+    -- no route
+    pub not-accepted : (rs out : List ℕ) → (bitAnd (getD finish 0 0 / 2 ^ q) 1 ≡ 1 → ⊥) →
+        explainLeaves (record { number = 0; place = 0; accepted = false; records = 0 }) (lentOf t rs) out
+        ≡ explainFinished (jobOf job) (lentOf t rs) form out
     unfolding explainFinished
-    explained rs out after e = rw is-accepted e
+    not-accepted rs out none = rw (sym accepts-bit ∙ sym (bit-test (getD finish 0 0) q) ∙ ne-eqb _ 1 none)
+
+    -- a route
+    module _ (some : bitAnd (getD finish 0 0 / 2 ^ q) 1 ≡ 1) where
+      is-accepted : acceptsOn (jobOf job) t form ≡ true
+      is-accepted = sym accepts-bit ∙ may-fill some .1
+
+      pub on-route : (places : List ℕ) →
+          take (length form) places ≡ route (finalOf form finish) (doneIn (bitStatuses bits)) form q →
+          OnRoute job t form places
+      on-route places e =
+          let (words, can) = may-fill some in
+          let below = state-below f in
+          record {
+            accepts = is-accepted;
+            along = e
+                ∙ route-agree _ (jobOf job .final) ends-agree (doneIn (bitStatuses bits)) (doneAt t) form
+                (bits-agree bits t form same fit) q below (sym (words 0 q (omega arith) below) ∙ can)
+                ∙ ap (route _ (doneAt t) form) (f .initial);
+          }
+
+      pub explained : (rs out : List ℕ) (after : ExplainOutcome) →
+          after ≡ explainListed (jobOf job .rules) rs (listedFor (jobOf job) (lentOf t rs) form) out →
+          after ≡ explainFinished (jobOf job) (lentOf t rs) form out
+      unfolding explainFinished
+      explained rs out after e = rw is-accepted e

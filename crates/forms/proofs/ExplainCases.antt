@@ -7,7 +7,7 @@ use lib.Seq.{drop-at}
 use Rattle.grammar.specs.Rule.{Rule}
 use Rattle.job.specs.Check.{refused}
 use Rattle.job.specs.Job.{Job}
-use Rattle.saturation.specs.Table.{Lent, lentOf}
+use Rattle.machine.specs.Table.{Lent, lentOf}
 use Rattle.forms.specs.Listing.{Listed, recordsAt}
 use Rattle.forms.specs.Operations.{acceptsOn, ExplainOutcome, explainLeaves, explainRefused, listedFor}
 use Rattle.forms.specs.Operations.{explainListed, explainFinished}

@@ -3,9 +3,9 @@
 use Rattle.grammar.proofs.Basics.{_≡_, refl, _∙_, sym, ap, List, ℕ, eq-eqb, ne-eqb}
 use Rattle.job.specs.declared.Checked.{Checked}
 use Rattle.job.proofs.JobChecks.{both-pass}
-use Rattle.saturation.specs.Table.{Lent}
-use Rattle.saturation.specs.Operations.{machineCheck}
-use Rattle.saturation.proofs.MachineChecks.{Passed, machine-passed}
+use Rattle.machine.specs.Table.{Lent}
+use Rattle.machine.specs.Operations.{machineCheck}
+use Rattle.machine.proofs.MachineChecks.{Passed, machine-passed}
 use Rattle.forms.specs.Operations.{formCheck, explainCheck, explainCheckBy}
 use Rattle.forms.specs.Inside.AcceptanceParts.{FormFits}
 use Rattle.forms.proofs.FormChecks.{fits-of-check}

@@ -5,9 +5,9 @@ use Rattle.grammar.proofs.Basics.{take, cases}
 use Rattle.grammar.specs.Rule.{Rule}
 use Rattle.job.specs.Job.{Job}
 use Rattle.job.specs.Theorems.InRange.{InRange}
-use Rattle.saturation.specs.Table.{Lent, lentOf, KeepsRest, tableSize, reasonsSize, statuses, doneAt}
-use Rattle.saturation.specs.Theorems.Reasons.{ReasonsFit}
-use Rattle.saturation.proofs.Steps.FirstPart.{first}
+use Rattle.machine.specs.Table.{Lent, lentOf, KeepsRest, tableSize, reasonsSize, statuses, doneAt}
+use Rattle.machine.specs.Theorems.Reasons.{ReasonsFit}
+use Rattle.machine.proofs.Steps.FirstPart.{first}
 use Rattle.forms.specs.Acceptance.{SymbolsFit, route}
 use Rattle.forms.specs.Listing.{Listed, listAll, recordsAt}
 use Rattle.forms.specs.Operations.{acceptsOn, ExplainOutcome, explainLeaves, explainListed, listedFor}

@@ -5,14 +5,14 @@ use Rattle.grammar.proofs.Basics.{eq-eqb}
 use lib.Seq.{take-append-le, drop-append-le}
 use Rattle.grammar.specs.Rule.{Rule}
 use Rattle.job.specs.Job.{jobOf}
-use Rattle.saturation.specs.Table.{Lent, doneAt}
-use Rattle.saturation.specs.Smallest.{DecidesSmallest}
-use Rattle.saturation.proofs.MachineChecks.{Passed}
+use Rattle.machine.specs.Table.{Lent, doneAt}
+use Rattle.machine.specs.Smallest.{DecidesSmallest}
+use Rattle.machine.proofs.MachineChecks.{Passed}
 use Rattle.job.proofs.AcceptedFacts.{in-range}
-use Rattle.saturation.proofs.Starts.StartLaws.{started-length}
-use Rattle.saturation.proofs.Reasons.Runs.{run-reasons-fit}
-use Rattle.saturation.proofs.Starts.StartCounts.{run-finished-smallest}
-use Rattle.saturation.proofs.Steps.StepLaws.{finishes}
+use Rattle.machine.proofs.Starts.StartLaws.{started-length}
+use Rattle.machine.proofs.Reasons.Runs.{run-reasons-fit}
+use Rattle.machine.proofs.Starts.StartCounts.{run-finished-smallest}
+use Rattle.machine.proofs.Steps.StepLaws.{finishes}
 use Rattle.forms.specs.Listing.{Listed, recordsAt}
 use Rattle.forms.specs.Operations.{acceptsOn, explainCheck, finishedFrom, listedFor, explainOf, explainBy}
 use Rattle.forms.specs.Inside.AcceptanceParts.{FormFits}

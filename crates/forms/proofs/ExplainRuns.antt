@@ -4,10 +4,9 @@ use Rattle.grammar.proofs.Basics.{_≡_, _∙_, sym, ap, true, false, List, ℕ
 use Rattle.job.specs.declared.Checked.{Checked}
 use Rattle.job.specs.Accepted.{Accepted}
 use Rattle.job.specs.Job.{jobOf}
-use Rattle.saturation.specs.Table.{Lent, tableSize, reasonsSize}
-use Rattle.saturation.specs.Start.{started}
-use Rattle.saturation.specs.Advance.{steps}
-use Rattle.saturation.proofs.Starts.StartLaws.{started-length, started-length-reasons}
+use Rattle.machine.specs.Table.{Lent, tableSize, reasonsSize}
+use Rattle.machine.specs.Start.{started}
+use Rattle.machine.specs.Advance.{steps}
 use Rattle.forms.specs.Operations.{explainCheck, ExplainOutcome, explainLeaves, explainFinished, explainOf}
 use Rattle.forms.specs.Operations.{explainBy}
 use Rattle.forms.specs.Inside.AcceptanceParts.{FormFits}
@@ -31,26 +30,14 @@ module _ (job : List ℕ) (m : Lent) (form : List ℕ) {c : Checked} (checked : 
     pub may-start : MayRun job m
     may-start = let p = explain-passed job m form c checked none .0 in (p .long, p .long-reasons, p .ok)
 
-    -- the job is started
-    module _ {m₁ : Lent} (begun : m₁ ≡ started (jobOf job) m) where
-      pub may-run : MayRun job m₁
-      may-run = (
-        rw (begun, started-length (jobOf job) m) (may-start .0),
-        rw (begun, started-length-reasons (jobOf job) m) (may-start .1),
-        may-start .2,
-      )
+    -- the job is started and run to the end
+    module _ {m₁ : Lent} (ended : m₁ ≡ steps (jobOf job .rules) 65536 (started (jobOf job) m)) where
+      pub may-explain : Explainable job m₁ × FormFits form
+      may-explain =
+          let (p, fits) = explain-passed job m form c checked none in
+          (rw ended (run-explainable job m p 65536), fits)
 
-      -- and run
-      module _ {m₂ : Lent} (ran : m₂ ≡ steps (jobOf job .rules) 65536 m₁) where
-        finished : m₂ ≡ steps (jobOf job .rules) 65536 (started (jobOf job) m)
-        finished = ran ∙ ap (steps _ 65536) begun
-
-        pub may-explain : Explainable job m₂ × FormFits form
-        may-explain =
-            let (p, fits) = explain-passed job m form c checked none in
-            (rw finished (run-explainable job m p 65536), fits)
-
-        pub explains : (out : List ℕ) {after : ExplainOutcome} → after ≡ explainFinished (jobOf job) m₂ form out →
-            after ≡ explainOf job m form out
-        unfolding explainBy
-        explains out e = rw (eq-eqb _ 0 (ap (λ k. k .number) (sym checked) ∙ none), ← finished) e
+      pub explains : (out : List ℕ) {after : ExplainOutcome} → after ≡ explainFinished (jobOf job) m₁ form out →
+          after ≡ explainOf job m form out
+      unfolding explainBy
+      explains out e = rw (eq-eqb _ 0 (ap (λ k. k .number) (sym checked) ∙ none), ← ended) e

@@ -7,7 +7,7 @@ use native.Mathlib.Nat.{sub-zero}
 use Rattle.job.specs.Format.{recordsOf}
 use Rattle.job.specs.Job.{sortKey, sortedRules, jobOf}
 use Rattle.job.proofs.Keys.{rules-of-keys}
-use Rattle.saturation.specs.Table.{Lent, lentOf, tableSize, doneAt, each}
+use Rattle.machine.specs.Table.{Lent, lentOf, tableSize, doneAt, each}
 use Rattle.forms.specs.Acceptance.{route}
 use Rattle.forms.specs.Listing.{Listed, unmarked}
 use Rattle.forms.specs.Operations.{acceptsOn, explainLeaves, listedFor, explainListed}

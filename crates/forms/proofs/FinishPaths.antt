@@ -4,7 +4,7 @@ use Rattle.grammar.proofs.Basics.{_≡_, true, Bool, _&&_, List, _∷_, [], ℕ
 use Rattle.grammar.specs.Automaton.{Path, here, along}
 use Rattle.forms.specs.Acceptance.{canFinish}
 use Rattle.forms.specs.Theorems.AcceptanceTheorems.{Done}
-use Rattle.forms.proofs.Searching.{some-found, some-passes}
+use Rattle.grammar.proofs.Some.{some-found, some-passes}
 
 module _ (final : ℕ → Bool) (done : ℕ → ℕ → ℕ → Bool) where
   pub finish-path : (w : List ℕ) (q : ℕ) → q < 32 → canFinish final done w q ≡ true → (r : ℕ) × Path (Done done) q w r

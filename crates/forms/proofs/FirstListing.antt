@@ -1,48 +1,33 @@
 -- Acceptance, the route and the listing read and write only the first 65,536 bytes and 32,768 reasons: they commute
 -- with cutting what is lent down to these. Assumes nothing.
-use Rattle.grammar.proofs.Basics.{_≡_, refl, _∙_, sym, ap, ap₂, true, Bool, _&&_, cond, List, _∷_, [], _++_}
-use Rattle.grammar.proofs.Basics.{List·Memᴰ·head, List·Memᴰ·tail, ℕ, _<_, suc, zero, suc-le-suc, arith, eqb, leb, take}
-use Rattle.grammar.proofs.Basics.{getD-take, leb-false, cases}
+use Rattle.grammar.proofs.Basics.{_≡_, refl, _∙_, sym, ap, ap₂, true, Bool, cond, List, _∷_, [], _++_, ℕ, _<_, suc}
+use Rattle.grammar.proofs.Basics.{List·Memᴰ·head, List·Memᴰ·tail, zero, eqb, leb, take, getD-take, leb-false, cases}
 use lib.Seq.{take-set-lt}
 use Rattle.grammar.specs.Rule.{Rule}
-use Rattle.saturation.specs.Table.{tableSize, reasonsSize, fromState, symbolAt, toState, reasonPlace, doneAt}
-use Rattle.saturation.proofs.Tables.FirstFrom.{first-cong}
-use Rattle.saturation.proofs.Tables.RuleRanges.{RulesInRange}
-use Rattle.saturation.proofs.Steps.FirstPart.{done-first}
-use Rattle.saturation.proofs.Tables.Places.{from-state-below, to-state-below, reason-place-below}
-use Rattle.forms.specs.Acceptance.{SymbolsFit, canFinish, nextState, route}
+use Rattle.machine.specs.Table.{tableSize, reasonsSize, fromState, symbolAt, toState, reasonPlace, doneAt}
+use Rattle.machine.proofs.Tables.RuleRanges.{RulesInRange}
+use Rattle.machine.proofs.Steps.FirstPart.{done-first}
+use Rattle.machine.proofs.Tables.Places.{from-state-below, to-state-below, reason-place-below}
+use Rattle.forms.specs.Acceptance.{SymbolsFit, canFinish, route}
 use Rattle.forms.specs.Listing.{Listed, listing, inTurn, reasonAt, premises, reasonBytes, recordOf, visit}
 use Rattle.forms.specs.Listing.{depthBound, listAll, recordsAt}
-use Rattle.forms.proofs.Searching.{some-cong}
-use Rattle.forms.proofs.Routes.{next-is, route-done}
+use Rattle.forms.proofs.Routes.{route-done}
+use Rattle.forms.specs.Inside.AcceptanceParts.{AgreeOn}
+use Rattle.forms.proofs.Agreeing.{agree-on, finish-agree, route-agree}
 use Rattle.forms.proofs.ListedPlaces.{Within, premises-within}
 
 -- acceptance and the route
 module _ (final : ℕ → Bool) (t : List ℕ) where
+  on-first : (w : List ℕ) → SymbolsFit w → AgreeOn (doneAt t) (doneAt (take tableSize t)) w
+  on-first w fit = agree-on (doneAt t) (doneAt (take tableSize t)) w (done-first t) fit
+
   pub can-finish-first : (w : List ℕ) (q : ℕ) → q < 32 → SymbolsFit w →
       canFinish final (doneAt t) w q ≡ canFinish final (doneAt (take tableSize t)) w q
-  unfolding canFinish
-  can-finish-first [] q l fit = refl
-  can-finish-first (X ∷ w) q l fit =
-      some-cong _ _ 32
-      (λ r rl. ap₂ _&&_ (done-first t q X r l (omega (arith, fit 0 (omega arith))) rl)
-      (can-finish-first w r rl (λ i h. fit (suc i) (suc-le-suc h))))
-
-  next-first : (X : ℕ) (w : List ℕ) (q : ℕ) → q < 32 → SymbolsFit (X ∷ w) →
-      nextState final (doneAt t) X w q ≡ nextState final (doneAt (take tableSize t)) X w q
-  unfolding nextState
-  next-first X w q l fit =
-      first-cong _ _ 0 32
-      (λ r rl. ap₂ _&&_ (done-first t q X r l (omega (arith, fit 0 (omega arith))) (omega arith))
-      (can-finish-first w r (omega arith) (λ i h. fit (suc i) (suc-le-suc h))))
+  can-finish-first w q l fit = finish-agree final _ (λ s k. refl) (doneAt t) _ w (on-first w fit) q l
 
   pub route-in-first : (w : List ℕ) (q : ℕ) → q < 32 → SymbolsFit w → canFinish final (doneAt t) w q ≡ true →
       route final (doneAt t) w q ≡ route final (doneAt (take tableSize t)) w q
-  unfolding route
-  route-in-first [] q l fit e = refl
-  route-in-first (X ∷ w) q l fit e =
-      let (below, now, later) = next-is final (doneAt t) X w q e in
-      rw (← next-first X w q l fit, route-in-first w _ below (λ i h. fit (suc i) (suc-le-suc h)) later) refl
+  route-in-first w q l fit e = route-agree final _ (λ s k. refl) (doneAt t) _ w (on-first w fit) q l e
 
   -- the route's places are in the first part
   pub route-within : (w : List ℕ) (q : ℕ) → q < 32 → SymbolsFit w → canFinish final (doneAt t) w q ≡ true →

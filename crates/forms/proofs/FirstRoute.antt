@@ -2,11 +2,11 @@
 -- finish, so no lower one. Assumes nothing.
 use Rattle.grammar.proofs.Basics.{_≡_, refl, true, Bool, List, _∷_, [], map, ℕ, _<_, _≤_, arith, ltb, ltb-false}
 use Rattle.grammar.proofs.Basics.{ltb-true, cases, and-both}
-use Rattle.saturation.specs.Table.{place, toState}
+use Rattle.machine.specs.Table.{place, toState}
 use Rattle.forms.specs.Acceptance.{canFinish, nextState, route}
 use Rattle.forms.specs.Theorems.AcceptanceTheorems.{Done, Accepting, ends, follows, LexAtMost, none, lower}
 use Rattle.forms.specs.Theorems.AcceptanceTheorems.{later, FirstAccepting, placesAlong}
-use Rattle.saturation.proofs.Tables.FirstFrom.{first-least}
+use Rattle.machine.proofs.Tables.FirstFrom.{first-least}
 use Rattle.forms.proofs.Routes.{next-is}
 use Rattle.forms.proofs.FinishPaths.{finish-before}
 

@@ -4,13 +4,12 @@ use Rattle.grammar.proofs.Basics.{_≡_, refl, _∙_, ap, true, List, _∷_, []
 use Rattle.grammar.proofs.Basics.{add-zero, arith, ltb, length, getD, eq-eqb, ne-eqb, ltb-false, lt-ltb, le-ltb, cases}
 use Rattle.job.specs.declared.Checked.{Checked}
 use Rattle.job.specs.Accepted.{Accepted}
-use Rattle.job.specs.Check.{jobCheck, orElse, refused, accepted, shortTable}
+use Rattle.job.specs.Check.{jobCheck, orElse, refused, accepted}
 use Rattle.job.proofs.Accepted.{number-accepted}
 use Rattle.job.proofs.JobChecks.{both-pass, not-short}
-use Rattle.saturation.specs.Table.{tableSize}
 use Rattle.forms.specs.Acceptance.{SymbolsFit}
-use Rattle.forms.specs.Operations.{firstOver, formCheck, askCheck, askCheckBy}
-use Rattle.forms.specs.Inside.AcceptanceParts.{FormFits}
+use Rattle.forms.specs.Operations.{firstOver, formCheck, askChecks, askCheck, askCheckBy}
+use Rattle.forms.specs.Inside.AcceptanceParts.{FormFits, shortOf}
 
 -- the symbols before a position fit
 abbrev pub FitBefore : List ℕ → ℕ → Type 0
@@ -74,39 +73,43 @@ pub form-number : (form : List ℕ) → formCheck form .number ≤ 12
 unfolding formCheck
 form-number form = cases (ltb 64 (length form)) (λ t. rw t (omega arith)) (λ t. rw t (first-over-number 0 form))
 
--- the ways through the checks of ask: a short table, a refused job, and the form's own
-pub ask-short : (job table form : List ℕ) → length table < tableSize → askCheck job table form ≡ refused 10 1
-unfolding askCheckBy
-ask-short job table form h = rw (lt-ltb (length table) tableSize h)
+-- the ways through the checks of ask, by the length of a lent table: a short one, a refused job, and the form's own
+module _ (n needed : ℕ) (job form : List ℕ) where
+  abbrev checks : Checked
+  checks = askChecks jobCheck (shortOf n needed) job form
 
-module _ (job table form : List ℕ) (c : Checked) (long : tableSize ≤ length table)
-    (e : c ≡ jobCheck true job) where
-  -- on a long table the job's check alone comes before the form's
-  job-first : orElse (orElse (shortTable table) (jobCheck true job)) (formCheck form)
-      ≡ orElse c (formCheck form)
-  job-first = rw (le-ltb (length table) tableSize long, e)
+  pub ask-short : n < needed → checks ≡ refused 10 1
+  ask-short h = rw (lt-ltb n needed h)
 
-  pub ask-job : (c .number ≡ 0 → ⊥) → askCheck job table form ≡ c
-  unfolding askCheckBy
-  ask-job refusal = job-first ∙ rw (ne-eqb (c .number) 0 refusal)
+  module _ (long : needed ≤ n) {c : Checked} (e : c ≡ jobCheck true job) where
+    -- with a long table the job's check alone comes before the form's
+    job-first : checks ≡ orElse c (formCheck form)
+    job-first = rw (le-ltb n needed long, e)
 
-  pub ask-form : c .number ≡ 0 → askCheck job table form ≡ formCheck form
-  unfolding askCheckBy
-  ask-form none = job-first ∙ rw (eq-eqb (c .number) 0 none)
+    pub ask-job : (c .number ≡ 0 → ⊥) → checks ≡ c
+    ask-job refusal = job-first ∙ rw (ne-eqb (c .number) 0 refusal)
+
+    pub ask-form : c .number ≡ 0 → checks ≡ formCheck form
+    ask-form none = job-first ∙ rw (eq-eqb (c .number) 0 none)
 
 -- what ask has made sure of where it refuses nothing
-pub record AskPassed (job table form : List ℕ) : Type 0 where
-  pub long : tableSize ≤ length table
+pub record AskPassed (n needed : ℕ) (job form : List ℕ) : Type 0 where
+  pub long : needed ≤ n
   pub job-accepted : Accepted true job
   pub form-fits : FormFits form
 
-pub ask-passed : (job table form : List ℕ) → askCheck job table form .number ≡ 0 → AskPassed job table form
-unfolding askCheckBy
-ask-passed job table form e =
+pub ask-passed : (n needed : ℕ) (job form : List ℕ) → askChecks jobCheck (shortOf n needed) job form .number ≡ 0 →
+    AskPassed n needed job form
+ask-passed n needed job form e =
     let (c, f) = both-pass _ (formCheck form) e in
-    let (t, j) = both-pass (shortTable table) _ c in
+    let (t, j) = both-pass (shortOf n needed) _ c in
     record {
-      long = ltb-false (length table) tableSize (not-short _ 1 t);
+      long = ltb-false n needed (not-short _ 1 t);
       job-accepted = number-accepted true job j;
       form-fits = fits-of-check form f;
     }
+
+pub ask-table-passed : (job table form : List ℕ) → askCheck job table form .number ≡ 0 →
+    AskPassed (length table) 65536 job form
+unfolding askCheckBy
+ask-table-passed job table form e = ask-passed (length table) 65536 job form e

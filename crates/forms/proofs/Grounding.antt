@@ -6,14 +6,14 @@ use Rattle.grammar.proofs.Basics.{_/_, _%_, arith, leb, getD, eq-eqb, ne-eqb, l
 use Rattle.grammar.specs.Rule.{Rule, head, empty}
 use Rattle.grammar.specs.Closure.{Closure}
 use Rattle.job.specs.Job.{Job}
-use Rattle.saturation.specs.Table.{Lent, tableSize, place, fromState, symbolAt, toState, isAbsentAt, byteStatus}
-use Rattle.saturation.specs.Table.{statuses, doneIn, doneAt, givenReason, reasonOf, turnAt}
-use Rattle.job.proofs.NoRepeat.{member-at}
+use Rattle.machine.specs.Table.{Lent, tableSize, place, fromState, symbolAt, toState, isAbsentAt, byteStatus}
+use Rattle.machine.specs.Table.{statuses, doneIn, doneAt, givenReason, reasonOf, turnAt}
+use Rattle.grammar.proofs.NoRepeat.{member-at}
 use Rattle.job.specs.Theorems.InRange.{RuleInRange, InRange}
-use Rattle.saturation.specs.Smallest.{Smallest, DecidesSmallest}
-use Rattle.saturation.specs.Theorems.Reasons.{RuleAt, Premise, Reason, ReasonsFit}
-use Rattle.saturation.proofs.Tables.Statuses.{done-not-absent}
-use Rattle.saturation.proofs.Tables.Places.{place-of-parts, place-below}
+use Rattle.machine.specs.Smallest.{Smallest, DecidesSmallest}
+use Rattle.machine.specs.Theorems.Reasons.{RuleAt, Premise, Reason, ReasonsFit}
+use Rattle.machine.proofs.Tables.Statuses.{done-not-absent}
+use Rattle.machine.proofs.Tables.Places.{place-of-parts, place-below}
 use Rattle.forms.specs.Listing.{reasonAt, reasonRule, rulePremises, premises}
 use Rattle.forms.specs.Grounded.{DonePlace, ReasonFits, Grounded}
 use Rattle.forms.specs.Theorems.ListingTheorems.{TrueReasons}

@@ -1,11 +1,14 @@
 pub mod Searching
-pub mod Flags
 pub mod Routes
+pub mod Agreeing
 pub mod FinishPaths
 pub mod FirstRoute
 pub mod Membership
 pub mod FormChecks
+pub mod FinalWord
 pub mod AskAnswers
+pub mod StateWords
+pub mod AskedAlike
 pub mod Visits
 pub mod Runs
 pub mod ReasonLaws

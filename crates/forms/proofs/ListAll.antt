@@ -6,12 +6,12 @@ use Rattle.grammar.proofs.Basics.{drop-cons, drop-length}
 use lib.ListN.{take-append-drop}
 use lib.Seq.{sets-eq}
 use Rattle.grammar.specs.Rule.{Rule}
-use Rattle.saturation.specs.Table.{reasonsSize}
+use Rattle.machine.specs.Table.{reasonsSize}
 use Rattle.forms.specs.Listing.{Listed, inTurn, recordsAt, listAll}
 use Rattle.forms.specs.Grounded.{DonePlace}
 use Rattle.forms.specs.Inside.ListingParts.{CanVisit, CanListAll, RoomFor, ListingPass, passOf, shown, visitOne}
 use Rattle.forms.specs.Inside.ListingParts.{passOver}
-use Rattle.job.proofs.NoRepeat.{member-at}
+use Rattle.grammar.proofs.NoRepeat.{member-at}
 use Rattle.forms.proofs.Runs.{Run}
 use Rattle.forms.proofs.RunLaws.{run-places, run-counts, unlisted-bound, done-kept}
 use Rattle.forms.proofs.Passes.{records-length}

@@ -7,11 +7,11 @@ use Rattle.grammar.proofs.Basics.{length-set, ltb-false, ltb-true, cases}
 use lib.ListN.{List·getD-eq-default}
 use lib.Seq.{drop-set-lt}
 use Rattle.grammar.specs.Rule.{Rule, empty, unit, pair}
-use Rattle.job.proofs.NoRepeat.{member-at}
+use Rattle.grammar.proofs.NoRepeat.{member-at}
 use Rattle.job.specs.Theorems.InRange.{RuleInRange}
-use Rattle.saturation.specs.Table.{tableSize, place, fromState, toState, givenReason}
-use Rattle.saturation.proofs.Tables.RuleRanges.{RulesInRange}
-use Rattle.saturation.proofs.Tables.Places.{place-below, from-state-below, to-state-below}
+use Rattle.machine.specs.Table.{tableSize, place, fromState, toState, givenReason}
+use Rattle.machine.proofs.Tables.RuleRanges.{RulesInRange}
+use Rattle.machine.proofs.Tables.Places.{place-below, from-state-below, to-state-below}
 use Rattle.forms.specs.Listing.{Listed, listing, inTurn, reasonAt, reasonRule, rulePremises, premises, isListed}
 use Rattle.forms.specs.Listing.{visit, depthBound, listAll}
 

@@ -5,8 +5,8 @@ use Rattle.grammar.proofs.Basics.{ℕ, _<_, _≤_, _+_, suc, zero, _*_, arith, 
 use Rattle.grammar.proofs.Basics.{take-at, eqb-true, eqb-false, cases}
 use lib.Seq.{drop-append-add}
 use Rattle.grammar.specs.Rule.{Rule}
-use Rattle.saturation.specs.Table.{tableSize, doneCount, statuses, givenReason, turnAt, each}
-use Rattle.saturation.proofs.Tables.Each.{length-each, getD-each-0}
+use Rattle.machine.specs.Table.{tableSize, doneCount, statuses, givenReason, turnAt, each}
+use Rattle.machine.proofs.Tables.Each.{length-each, getD-each-0}
 use Rattle.forms.specs.Listing.{reasonAt, reasonMiddle, premises, reasonBytes, recordOf, recordsAt, isListed}
 use Rattle.forms.specs.Listing.{depthBound, listAll, unmarked}
 use Rattle.forms.specs.Grounded.{DonePlace}
@@ -19,7 +19,7 @@ use Rattle.forms.proofs.Runs.{Run, run-length, visits-run}
 use Rattle.forms.proofs.RunLaws.{run-marks, run-lists-done}
 use Rattle.forms.proofs.RunOrder.{listed-marked, unlisted-kept, places-apart, marked-listed, premises-before}
 use Rattle.forms.proofs.Unmarking.{unmarked-other, unmarked-three}
-use Rattle.job.proofs.NoRepeat.{member-at}
+use Rattle.grammar.proofs.NoRepeat.{member-at}
 use Rattle.forms.proofs.Distinct.{distinct-counted}
 
 -- the listing as a run

@@ -5,7 +5,7 @@ use Rattle.grammar.specs.Automaton.{Holds, StatesBelow, Path, here, along}
 use Rattle.grammar.proofs.PreStar.{path-derives, derives-path}
 use Rattle.grammar.proofs.Smallest.{closure-below}
 use Rattle.job.specs.Job.{Job}
-use Rattle.saturation.specs.Smallest.{Smallest, DecidesSmallest}
+use Rattle.machine.specs.Smallest.{Smallest, DecidesSmallest}
 use Rattle.forms.specs.Acceptance.{SymbolsFit, isAccepted, DerivesGiven}
 use Rattle.forms.specs.Theorems.AcceptanceTheorems.{Done}
 use Rattle.forms.proofs.FinishPaths.{finish-path, path-finish}

@@ -3,7 +3,7 @@ use Rattle.grammar.proofs.Basics.{_≡_, refl, _∙_, sym, ⊎-elim, true, fals
 use Rattle.grammar.proofs.Basics.{List·Memᴰ·head, List·Memᴰ·tail, List·Memᴰ·not-nil, List·Memᴰ·cases-cons, ℕ, _<_, _≤_}
 use Rattle.grammar.proofs.Basics.{_+_, _-_, arith, length, set, eq-eqb, ne-eqb, le-leb, lt-leb, cases}
 use Rattle.grammar.specs.Rule.{Rule}
-use Rattle.saturation.specs.Table.{tableSize, symbolAt}
+use Rattle.machine.specs.Table.{tableSize, symbolAt}
 use Rattle.forms.specs.Listing.{isListed}
 use Rattle.forms.specs.Grounded.{DonePlace}
 use Rattle.forms.specs.Inside.ListingParts.{HasReason, CanList, CanMove, RoomFor, firstUnlisted, ListingPass}

@@ -3,7 +3,7 @@
 use Rattle.grammar.proofs.Basics.{_≡_, refl, _∙_, sym, ap, true, false, cond, List, _∷_, [], List·Memᴰ, List·Memᴰ·head}
 use Rattle.grammar.proofs.Basics.{List·Memᴰ·tail, ℕ, _≤_, arith, eqb, length, cases}
 use Rattle.grammar.specs.Rule.{Rule}
-use Rattle.saturation.specs.Table.{tableSize}
+use Rattle.machine.specs.Table.{tableSize}
 use Rattle.forms.specs.Listing.{Listed, listing, inTurn, premises, visit, isListed, depthBound}
 use Rattle.forms.specs.Grounded.{DonePlace, Grounded}
 use Rattle.forms.specs.Inside.ListingParts.{firstUnlisted}

@@ -8,7 +8,7 @@ use native.Mathlib.Numerals.{towards-suc}
 use Rattle.grammar.specs.Rule.{Rule, empty, unit, pair}
 use Rattle.job.specs.Inside.Keys.{ruleOfKey}
 use Rattle.job.specs.Format.{byteU, byteP}
-use Rattle.saturation.specs.Table.{tableSize, place, fromState, symbolAt, toState, givenReason}
+use Rattle.machine.specs.Table.{tableSize, place, fromState, symbolAt, toState, givenReason}
 use Rattle.forms.specs.declared.ReasonBytes.{ReasonBytes}
 use Rattle.forms.specs.Listing.{reasonAt, rulePremises, ruleBytes, reasonBytes, premises, recordOf, isListed}
 use Rattle.forms.specs.Listing.{byteG}

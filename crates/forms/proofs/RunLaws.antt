@@ -6,7 +6,7 @@ use Rattle.grammar.proofs.Basics.{_+_, suc, arith, eqb, length, getD, set, leng
 use Rattle.grammar.proofs.Basics.{true-and-false}
 use Rattle.grammar.proofs.Counting.{count-one-more, count-bound}
 use Rattle.grammar.specs.Rule.{Rule}
-use Rattle.saturation.specs.Table.{tableSize, Status, saysDone, doneCount, byteStatus, statuses}
+use Rattle.machine.specs.Table.{tableSize, Status, saysDone, doneCount, byteStatus, statuses}
 use Rattle.forms.specs.Listing.{Listed, isListed}
 use Rattle.forms.specs.Grounded.{DonePlace, Grounded}
 use Rattle.forms.specs.Inside.ListingParts.{unlistedCount, fresh}

@@ -8,7 +8,7 @@ use lib.ListN.{List·getD-append}
 use lib.Seq.{getD-append-seam}
 use Rattle.grammar.specs.Counting.{NoRepeat}
 use Rattle.grammar.specs.Rule.{Rule}
-use Rattle.saturation.specs.Table.{tableSize}
+use Rattle.machine.specs.Table.{tableSize}
 use Rattle.forms.specs.Listing.{Listed, premises, isListed}
 use Rattle.forms.specs.Grounded.{Grounded}
 use Rattle.forms.specs.Inside.ListingParts.{fresh}

@@ -5,7 +5,7 @@ use Rattle.grammar.proofs.Basics.{List·Memᴰ·head, List·Memᴰ·tail, List�
 use Rattle.grammar.proofs.Basics.{suc, zero, arith, eqb, length, getD, set, length-set, getD-set-other, getD-set-same}
 use Rattle.grammar.proofs.Basics.{eq-eqb, eqb-true, eqb-false, cases}
 use Rattle.grammar.specs.Rule.{Rule}
-use Rattle.saturation.specs.Table.{tableSize, turnAt}
+use Rattle.machine.specs.Table.{tableSize, turnAt}
 use Rattle.forms.specs.Listing.{Listed, listing, inTurn, premises, visit, isListed, depthBound}
 use Rattle.forms.specs.Grounded.{DonePlace, Grounded}
 use Rattle.forms.proofs.Visits.{bound-enough}

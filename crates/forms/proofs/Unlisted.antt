@@ -4,17 +4,17 @@ use Rattle.grammar.proofs.Basics.{_≡_, refl, true, false, Bool, cond, _||_, L
 use Rattle.grammar.proofs.Basics.{getD, lt-leb}
 use Rattle.grammar.specs.Rule.{Rule}
 use Rattle.job.specs.Job.{Job, jobOf}
-use Rattle.saturation.specs.Table.{Lent, tableSize, fromState, symbolAt, toState, Statuses, statuses}
-use Rattle.saturation.specs.Start.{started, startByte, isEmptyAt}
-use Rattle.saturation.specs.Step.{comesIn, taking}
-use Rattle.saturation.specs.Advance.{steps}
-use Rattle.saturation.proofs.MachineChecks.{Passed}
+use Rattle.machine.specs.Table.{Lent, tableSize, fromState, symbolAt, toState, Statuses, statuses}
+use Rattle.machine.specs.Start.{started, startByte, isEmptyAt}
+use Rattle.machine.specs.Step.{comesIn, taking}
+use Rattle.machine.specs.Advance.{steps}
+use Rattle.machine.proofs.MachineChecks.{Passed}
 use Rattle.job.proofs.AcceptedFacts.{in-range}
-use Rattle.saturation.proofs.Tables.Each.{getD-each-0}
-use Rattle.saturation.proofs.Steps.Taking.{taking-length}
-use Rattle.saturation.proofs.Starts.StartLaws.{started-length, started-length-reasons}
-use Rattle.saturation.proofs.Steps.StepLaws.{steps-keep, steps-keep-rest}
-use Rattle.saturation.proofs.Reasons.Runs.{run-reasons-fit}
+use Rattle.machine.proofs.Tables.Each.{getD-each-0}
+use Rattle.machine.proofs.Steps.Taking.{taking-length}
+use Rattle.machine.proofs.Starts.StartLaws.{started-length, started-length-reasons}
+use Rattle.machine.proofs.Steps.StepLaws.{steps-keep, steps-keep-rest}
+use Rattle.machine.proofs.Reasons.Runs.{run-reasons-fit}
 use Rattle.forms.specs.Listing.{isListed}
 use Rattle.forms.specs.Inside.ExplainParts.{Explainable}
 use Rattle.forms.proofs.Grounding.{grounded-by-reasons}

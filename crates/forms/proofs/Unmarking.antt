@@ -2,9 +2,9 @@
 -- nothing.
 use Rattle.grammar.proofs.Basics.{_≡_, sym, true, false, _&&_, cond, List, ℕ, _<_, _+_, arith, eqb, ltb, length, getD}
 use Rattle.grammar.proofs.Basics.{set, eqb-false, ltb-true, lt-ltb, le-ltb, cases, same-test}
-use Rattle.saturation.proofs.Tables.Bytes.{done-two-three}
-use Rattle.saturation.specs.Table.{tableSize, isDone, each}
-use Rattle.saturation.proofs.Tables.Each.{getD-each-0, each-identity, set-each}
+use Rattle.machine.proofs.Tables.Bytes.{done-two-three}
+use Rattle.machine.specs.Table.{tableSize, isDone, each}
+use Rattle.machine.proofs.Tables.Each.{getD-each-0, each-identity, set-each}
 use Rattle.forms.specs.Listing.{unmarked}
 
 -- up to a place

@@ -3,7 +3,7 @@
 use Rattle.grammar.proofs.Basics.{_≡_, refl, _∙_, ap, cond, List, _∷_, [], List·Memᴰ, List·Memᴰ·head, List·Memᴰ·tail}
 use Rattle.grammar.proofs.Basics.{ℕ, _<_, suc, zero, arith}
 use Rattle.grammar.specs.Rule.{Rule}
-use Rattle.saturation.specs.Table.{turnAt}
+use Rattle.machine.specs.Table.{turnAt}
 use Rattle.forms.specs.Listing.{Listed, listing, inTurn, premises, visit, isListed, depthBound}
 use Rattle.forms.specs.Grounded.{DonePlace, Grounded}
 

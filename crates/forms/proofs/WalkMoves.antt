@@ -4,7 +4,7 @@ use Rattle.grammar.proofs.Basics.{_≡_, refl, _∙_, ap, ⊎-elim, false, Bool
 use Rattle.grammar.proofs.Basics.{List·Memᴰ·cases-cons, ℕ, _<_, _+_, _-_, _*_, arith, eqb, leb, length, set}
 use Rattle.grammar.proofs.Basics.{length-set, eqb-true, eqb-false, leb-true, leb-false, cases}
 use Rattle.grammar.specs.Rule.{Rule}
-use Rattle.saturation.specs.Table.{tableSize, reasonsSize, symbolAt, turnAt}
+use Rattle.machine.specs.Table.{tableSize, reasonsSize, symbolAt, turnAt}
 use Rattle.forms.specs.Listing.{Listed, inTurn, premises, visit, isListed, depthBound}
 use Rattle.forms.specs.Grounded.{DonePlace, Grounded}
 use Rattle.forms.specs.Inside.ListingParts.{unlistedCount, CanVisit, ListingPass, fresh, shown, listOne}

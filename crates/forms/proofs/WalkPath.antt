@@ -6,10 +6,10 @@ use Rattle.grammar.proofs.Basics.{_+_, suc, _-_, zero, add-one, arith, eqb, len
 use Rattle.grammar.proofs.Basics.{getD-set-other, getD-set-same}
 use Rattle.grammar.specs.Counting.{NoRepeat}
 use Rattle.grammar.proofs.NoRepeat.{no-repeat-map}
-use Rattle.saturation.specs.Table.{reasonsSize, fromState, symbolAt, toState, place, reasonPlace, reasonState}
-use Rattle.saturation.specs.Table.{reasonVariable}
-use Rattle.saturation.proofs.Tables.Places.{to-state-below, place-of-parts, reason-state-place, reason-variable-place}
-use Rattle.saturation.proofs.Tables.Places.{to-state-reason-place}
+use Rattle.machine.specs.Table.{reasonsSize, fromState, symbolAt, toState, place, reasonPlace, reasonState}
+use Rattle.machine.specs.Table.{reasonVariable}
+use Rattle.machine.proofs.Tables.Places.{to-state-below, place-of-parts, reason-state-place, reason-variable-place}
+use Rattle.machine.proofs.Tables.Places.{to-state-reason-place}
 use Rattle.forms.specs.Listing.{isListed}
 use Rattle.forms.specs.Grounded.{DonePlace}
 use Rattle.forms.proofs.Distinct.{no-more-than}

@@ -3,7 +3,7 @@
 use Rattle.grammar.proofs.Basics.{_≡_, _∙_, ap, true, false, Bool, List, _∷_, [], List·Memᴰ·not-nil, ℕ, _<_, _≤_, _+_}
 use Rattle.grammar.proofs.Basics.{add-zero, arith, length, set, length-set}
 use Rattle.grammar.specs.Rule.{Rule}
-use Rattle.saturation.specs.Table.{tableSize, symbolAt}
+use Rattle.machine.specs.Table.{tableSize, symbolAt}
 use Rattle.forms.specs.Listing.{listing, inTurn, recordsAt, visit, depthBound, isListed}
 use Rattle.forms.specs.Inside.ListingParts.{HasReason, CanVisit, RoomFor, ListingPass, fresh, shown, listOne}
 use Rattle.forms.specs.Inside.ListingParts.{visitOne}

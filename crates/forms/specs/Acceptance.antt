@@ -1,25 +1,21 @@
 -- Whether a form is accepted, and along which states, by the final states and the transitions that are done. Assumes
 -- nothing.
 use mathlib.Core.Path.{_≡_}
-use Prim.Native.Nat.{ℕ, zero, suc, _<_, _≤_}
-use mathlib.Core.Bool.{Bool, true, false, _&&_, _||_}
+use Prim.Native.Nat.{ℕ, _<_, _≤_}
+use mathlib.Core.Bool.{Bool, true, _&&_}
 use mathlib.Core.List.{List, [], _∷_}
 use lib.ListN.{length, getD}
 use Rattle.grammar.specs.Rule.{Among, ProductionsOf}
 use Rattle.grammar.specs.Derivation.{Derives}
 use Rattle.grammar.specs.Automaton.{Holds, Path}
+use Rattle.grammar.specs.Counting.{some}
 use Rattle.job.specs.Job.{Job}
-use Rattle.saturation.specs.Table.{place}
-use Rattle.saturation.specs.Step.{firstFrom}
+use Rattle.machine.specs.Table.{place}
+use Rattle.machine.specs.Step.{firstFrom}
 
 -- The job: the bytes of a form are symbols, variables or terminals, from 0 to 63
 abbrev pub SymbolsFit : List ℕ → Type 0
 SymbolsFit form = (i : ℕ) → i < length form → getD form i 0 ≤ 63
-
--- some number below n passes the test
-unfoldable pub some : (ℕ → Bool) → ℕ → Bool
-some f zero = false
-some f (suc n) = some f n || f n
 
 -- Forms and listings: a form is read along done transitions, with all 32 state numbers as states. Whether its rest
 -- leads from a state to a final one

@@ -7,7 +7,7 @@ use mathlib.Core.List.{List, List·Memᴰ}
 use Prim.Native.Nat.{ℕ, _*_, _≤_, _<_}
 use lib.ListN.{length, getD}
 use Rattle.grammar.specs.Rule.{Rule}
-use Rattle.saturation.specs.Table.{tableSize, isDone, givenReason, turnAt}
+use Rattle.machine.specs.Table.{tableSize, isDone, givenReason, turnAt}
 use Rattle.forms.specs.Listing.{reasonAt, premises}
 
 -- a place of the table whose transition is done

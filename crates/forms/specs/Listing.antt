@@ -6,7 +6,7 @@ use lib.Dec.{eqb, leb, ltb}
 use lib.ListN.{getD, set}
 use Rattle.grammar.specs.Rule.{Rule, empty, unit, pair}
 use Rattle.job.specs.Format.{byteE, byteU, byteP}
-use Rattle.saturation.specs.Table.{tableSize, place, fromState, symbolAt, toState, reasonPlace, givenReason, reasonIn}
+use Rattle.machine.specs.Table.{tableSize, place, fromState, symbolAt, toState, reasonPlace, givenReason, reasonIn}
 
 -- the reason of the transition at a place, without its turn; that of a terminal is given, as no rule adds one
 abbrev pub reasonAt : List ℕ → ℕ → ℕ

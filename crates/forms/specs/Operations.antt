@@ -8,10 +8,12 @@ use Rattle.grammar.specs.Rule.{Rule}
 use Rattle.job.specs.declared.Checked.{Checked}
 use Rattle.job.specs.Check.{Checks, jobCheck, shortTable, refused, accepted, orElse}
 use Rattle.job.specs.Job.{Job, jobOf}
-use Rattle.saturation.specs.Table.{Lent, doneAt}
-use Rattle.saturation.specs.Start.{started}
-use Rattle.saturation.specs.Advance.{steps}
-use Rattle.saturation.specs.Operations.{machineCheckBy}
+use Rattle.machine.specs.Table.{Lent, Statuses, doneIn, statuses, doneAt}
+use Rattle.machine.specs.Start.{started}
+use Rattle.machine.specs.Advance.{steps}
+use Rattle.machine.specs.Operations.{machineCheckBy}
+use Rattle.bit_machine.specs.BitTable.{bitStatuses}
+use Rattle.bit_machine.specs.Operations.{shortBits}
 use Rattle.forms.specs.declared.Asked.{Asked}
 use Rattle.forms.specs.declared.Explained.{Explained}
 use Rattle.forms.specs.Acceptance.{isAccepted, route}
@@ -26,32 +28,55 @@ firstOver i (x ∷ xs) = cond (ltb 63 x) (refused 11 i) (firstOver (suc i) xs)
 unfoldable pub formCheck : List ℕ → Checked
 formCheck form = cond (ltb 64 (length form)) (refused 12 (length form)) (firstOver 0 form)
 
--- the checks of ask: the table, the job with an I, the form; by the checks of a job
-unfoldable pub askCheckBy : Checks → List ℕ → List ℕ → List ℕ → Checked
-askCheckBy checks job table form = orElse (orElse (shortTable table) (checks true job)) (formCheck form)
-
--- and by the checks of this product
-abbrev pub askCheck : List ℕ → List ℕ → List ℕ → Checked
-askCheck = askCheckBy jobCheck
-
--- Forms and listings: the form is accepted by the job's initial and final states on the done transitions of a table
-abbrev pub acceptsOn : Job → List ℕ → List ℕ → Bool
-acceptsOn J table form = isAccepted (J .final) (doneAt table) (J .initial) form
+-- the checks of ask past that of the lent table: the job with an I, then the form
+abbrev pub askChecks : Checks → Checked → List ℕ → List ℕ → Checked
+askChecks checks short job form = orElse (orElse short (checks true job)) (formCheck form)
 
 -- Refused calls: a refused ask says no
 abbrev pub askRefused : Checked → Asked
 askRefused c = record { number = c .number; place = c .place; accepted = false }
 
--- what ask answers
+-- what ask answers, by its checks and by whether the form is accepted
+abbrev pub askAnswer : Checked → Bool → Asked
+askAnswer c accepts = cond (eqb (c .number) 0) (record { number = 0; place = 0; accepted = accepts }) (askRefused c)
+
+-- Forms and listings: the form is accepted by the job's initial and final states on the transitions that a table says
+-- are done
+abbrev pub acceptsBy : Job → Statuses → List ℕ → Bool
+acceptsBy J v form = isAccepted (J .final) (doneIn v) (J .initial) form
+
+-- ask on a byte table: its checks, by the checks of a job
+unfoldable pub askCheckBy : Checks → List ℕ → List ℕ → List ℕ → Checked
+askCheckBy checks job table form = askChecks checks (shortTable table) job form
+
+-- and by the checks of this product
+abbrev pub askCheck : List ℕ → List ℕ → List ℕ → Checked
+askCheck = askCheckBy jobCheck
+
+abbrev pub acceptsOn : Job → List ℕ → List ℕ → Bool
+acceptsOn J table form = acceptsBy J (statuses table) form
+
+-- what it answers
 unfoldable pub askBy : Checks → List ℕ → List ℕ → List ℕ → Asked
-askBy checks job table form =
-    cond (eqb (askCheckBy checks job table form .number) 0)
-    (record { number = 0; place = 0; accepted = acceptsOn (jobOf job) table form })
-    (askRefused (askCheckBy checks job table form))
+askBy checks job table form = askAnswer (askCheckBy checks job table form) (acceptsOn (jobOf job) table form)
 
 -- and by the checks of this product
 abbrev pub askOf : List ℕ → List ℕ → List ℕ → Asked
 askOf = askBy jobCheck
+
+-- The bit table: the same on a bit table
+unfoldable pub askBitsCheckBy : Checks → List ℕ → List ℕ → List ℕ → Checked
+askBitsCheckBy checks job bits form = askChecks checks (shortBits bits) job form
+
+abbrev pub askBitsCheck : List ℕ → List ℕ → List ℕ → Checked
+askBitsCheck = askBitsCheckBy jobCheck
+
+unfoldable pub askBitsBy : Checks → List ℕ → List ℕ → List ℕ → Asked
+askBitsBy checks job bits form =
+    askAnswer (askBitsCheckBy checks job bits form) (acceptsBy (jobOf job) (bitStatuses bits) form)
+
+abbrev pub askBitsOf : List ℕ → List ℕ → List ℕ → Asked
+askBitsOf = askBitsBy jobCheck
 
 -- the checks of explain but for 13: table and reasons, the job with an I, the form
 unfoldable pub explainCheckBy : Checks → List ℕ → Lent → List ℕ → Checked

@@ -3,8 +3,8 @@
 use Rattle.grammar.proofs.Basics.{⊎-elim, List, _∷_, [], _++_, ℕ}
 use Rattle.grammar.specs.Rule.{Productions}
 use Rattle.grammar.specs.Derivation.{by-production, Derives, none, more}
-use Rattle.grammar.proofs.Strings.{All, cons, all-left, all-right, Any, here, there, any-left, any-right}
-use Rattle.grammar.proofs.Strings.{any-append, Focus, on, past, focus-append}
+use Rattle.grammar.proofs.Strings.{All, cons, all-left, all-right}
+use Rattle.grammar.proofs.Strings.{Focus, on, past, focus-append}
 
 -- each production gives its head what its body has
 abbrev pub Up : Productions → (List ℕ → Type 0) → (ℕ → Type 0) → Type 0
@@ -20,12 +20,6 @@ pub before-derivation :
 before-derivation F back none f = f
 before-derivation F back (more (by-production {A = A} {β = β} α γ p) d) f =
     back α A β γ p (before-derivation F back d f)
-
-module _ {G : Productions} {P : ℕ → Type 0} (up : Up G (Any P) P) where
-  pub any-before : Carried G (Any P)
-  any-before α A β γ p a =
-      ⊎-elim (any-left (A ∷ γ)) (λ b. any-right α (⊎-elim (λ c. here (up A β p c)) there (any-append β b)))
-      (any-append α a)
 
 module _ {G : Productions} {Q : ℕ → Type 0} (up : Up G (All Q) Q) where
   pub all-before : Carried G (All Q)

@@ -2,6 +2,7 @@ pub mod Basics
 pub mod Classes
 pub mod Totals
 pub mod Counting
+pub mod Some
 pub mod NoRepeat
 pub mod Meetings
 pub mod MeetingsRise
@@ -18,12 +19,15 @@ pub mod PaperExamples
 pub mod Strings
 pub mod Derivations
 pub mod Backwards
+pub mod Standing
+pub mod StandFor
 pub mod Paths
 pub mod Smallest
 pub mod PreStar
 pub mod Productive
 pub mod InContext
 pub mod UsefulIsBoth
+pub mod UsefulDerivations
 pub mod Graph
 pub mod Trees
 pub mod Slim

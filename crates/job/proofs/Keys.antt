@@ -1,14 +1,15 @@
 -- The sort keys of an accepted job's rules hold the rules: a key's four bytes are the record's, so each key decodes to
 -- the rule of its rank. Assumes nothing.
 use Rattle.grammar.proofs.Basics.{_≡_, refl, _∙_, sym, ap, ap₂, inl, inr, _⊎_, Bool, List, _∷_, [], List·Memᴰ}
-use Rattle.grammar.proofs.Basics.{List·Memᴰ·head, List·Memᴰ·tail, map, ℕ, _<_, _≤_, arith, length, getD, take}
-use Rattle.grammar.proofs.Basics.{length-map, length-take, List·getD-map, getD-take}
+use Rattle.grammar.proofs.Basics.{List·Memᴰ·head, List·Memᴰ·tail, map, ℕ, _<_, _≤_, _-_, arith, length, getD, take}
+use Rattle.grammar.proofs.Basics.{length-map, length-take, length-take-le, List·getD-map, getD-take}
+use Rattle.grammar.proofs.NoRepeat.{member-at}
+use native.Mathlib.Nat.{sub-zero}
 use Rattle.job.specs.declared.JobRecord.{JobRecord}
 use Rattle.job.specs.Format.{recordsOf, noRecord, byteE, byteU, byteP}
 use Rattle.job.specs.Accepted.{Accepted}
 use Rattle.job.specs.Job.{sortKey, sortedRules, ruleOf, jobOf, jobOfRecords}
-use Rattle.job.specs.Inside.Keys.{keyHead, keyKind, keySecond, keyThird, ruleOfKey, KeyFits}
-use Rattle.job.proofs.NoRepeat.{member-at}
+use Rattle.job.specs.Inside.Keys.{keyHead, keyKind, keySecond, keyThird, ruleOfKey, KeyFits, Keys, rulesOfKeys}
 use Rattle.job.proofs.Shapes.{RuleShape, empty-shape, unit-shape, pair-shape, rule-shape, shape-bounds}
 use Rattle.job.proofs.Ranks.{sorted-member}
 use Rattle.job.proofs.Insertion.{rules-counted}
@@ -55,7 +56,7 @@ module _ {needed : Bool} {job : List ℕ} (ok : Accepted needed job) where
   -- the first n keys are those of the rules, in the order of their ranks
   module _ (keys : List ℕ) (n : ℕ) (count : n ≡ length (sortedRules (recordsOf job)))
       (sorted : take n keys ≡ map sortKey (sortedRules (recordsOf job))) where
-    pub keys-within : n ≤ 256
+    keys-within : n ≤ 256
     keys-within = omega (arith, rules-counted (recordsOf job), ok .few-rules)
 
     pub keys-long : n ≤ length keys
@@ -77,3 +78,16 @@ module _ {needed : Bool} {job : List ℕ} (ok : Accepted needed job) where
     pub rules-of-keys : map ruleOfKey (take n keys) ≡ jobOf job .rules
     unfolding jobOf jobOfRecords
     rules-of-keys = ap (map ruleOfKey) sorted ∙ keys-say (sortedRules (recordsOf job)) shaped
+
+    -- so they are where the first n are lent as a slice
+    pub keys-lent : Keys (take (n - 0) keys)
+    keys-lent =
+        let long = length-take-le n keys keys-long in
+        rw (sub-zero n)
+        record {
+          few = omega (arith, keys-within);
+          fit = λ k l. let h : k < n = omega arith in rw (getD-take n keys k 0 h) (keys-fit k h);
+        }
+
+    pub rules-lent : rulesOfKeys (take (n - 0) keys) ≡ jobOf job .rules
+    rules-lent = rw (sub-zero n) rules-of-keys

@@ -17,9 +17,10 @@ pub mod Marks
 pub mod Walk
 pub mod Insertion
 pub mod RefusedPlace
+pub mod KeyRules
 pub mod Keys
 pub mod JobChecks
 pub mod Clearing
-pub mod KeyRules
+pub mod Filling
 pub mod GivenTriples
 pub mod Wider

@@ -1,7 +1,6 @@
 -- Lists in which no element stands twice: what stands before it or after it is another. Assumes nothing.
-use Rattle.grammar.proofs.Basics.{refl, _∙_, sym, ⊎-elim, List, _∷_, [], List·Memᴰ, _++_, List·Memᴰ·head}
-use Rattle.grammar.proofs.Basics.{List·Memᴰ·tail, List·Memᴰ·cases-cons, Memᴰ·cast, List·Permᴰ, Memᴰ·append-left}
-use Rattle.grammar.proofs.Basics.{Permᴰ·symm, ℕ, _<_, suc, zero, arith, length, getD}
+use Rattle.grammar.proofs.Basics.{_∙_, sym, ⊎-elim, List, _∷_, [], _++_, List·Memᴰ·head, List·Memᴰ·tail}
+use Rattle.grammar.proofs.Basics.{List·Memᴰ·cases-cons, Memᴰ·cast, List·Permᴰ, Memᴰ·append-left, Permᴰ·symm}
 use mathlib.Core.List.{List·Permᴰ·nil, List·Permᴰ·cons, List·Permᴰ·swap, List·Permᴰ·trans}
 use Rattle.grammar.specs.Counting.{NoRepeat}
 use Rattle.job.proofs.Permutation.{member-permutes}
@@ -22,9 +21,3 @@ pub no-repeat-front : {A : Type 0} (l m : List A) → NoRepeat (l ++ m) → NoRe
 unfolding NoRepeat
 no-repeat-front [] m h = tt
 no-repeat-front (x ∷ xs) m h = (λ n. h .0 (Memᴰ·append-left m n), no-repeat-front xs m (h .1))
-
--- what stands at a place of a list is a member
-pub member-at : {A : Type 0} (d : A) (l : List A) (i : ℕ) → i < length l → List·Memᴰ (getD l i d) l
-member-at d [] i h = absurd (omega arith)
-member-at d (x ∷ xs) zero h = List·Memᴰ·head refl
-member-at d (x ∷ xs) (suc i) h = List·Memᴰ·tail (member-at d xs i (omega arith))

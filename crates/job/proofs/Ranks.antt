@@ -9,7 +9,7 @@ use Rattle.job.specs.declared.JobRecord.{JobRecord}
 use Rattle.job.specs.Format.{isRule}
 use Rattle.job.specs.Job.{sortKey, insert, sortedRules}
 use Rattle.grammar.proofs.Counting.{count-all}
-use Rattle.job.proofs.NoRepeat.{member-at}
+use Rattle.grammar.proofs.NoRepeat.{member-at}
 use Rattle.job.proofs.Shapes.{key-apart}
 use Rattle.job.proofs.SortedRules.{Fitting}
 

@@ -5,5 +5,6 @@ pub mod Job
 pub mod Show
 pub mod Order
 pub mod Clear
+pub mod Written
 pub mod Inside
 pub mod Theorems

@@ -1,13 +1,5 @@
 // The job: its record format, its checks, and what its records say once their order is gone.
-ghost use mathlib.Core.Path.{_≡_};
-ghost use Rattle.grammar.specs.Counting.{one-if};
 
-pub mod check;
-pub mod clear;
-pub mod format;
-pub mod lookup;
-pub mod rules;
-pub mod show;
 pub mod theorems;
 
 // The most bytes that a job may have.
@@ -83,14 +75,4 @@ pub struct Tally {
     pub rules: usize,
     pub starts: usize,
     pub initials: usize,
-}
-
-// 1 for true, 0 for false.
-pub fn one_if(yes: bool) -> u8
-    ensures number { λ n. ⌜ n ≡ one-if yes ⌝ }
-{
-    if yes {
-        return 1;
-    }
-    0
 }

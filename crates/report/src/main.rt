@@ -14,7 +14,7 @@ fn report(job: &[u8]) {
     let mut codes = [0u8; job::CODE_BYTES];
     let report = reporting::operation::report(job, &mut table, &mut reasons, &mut codes);
     let mut out = [0u8; TEXT_BYTES];
-    let written = text::operations::report_text(report, &mut out);
+    let written = printing::operations::report_text(report, &mut out);
     console::write_output(&out, written.bytes);
 }
 

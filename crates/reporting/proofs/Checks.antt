@@ -1,7 +1,7 @@
 -- The ways through the checks of the report: the tests in turn. Assumes nothing.
 use Rattle.grammar.proofs.Basics.{_≡_, true, List, ℕ, _<_, _≤_, length, lt-ltb, le-ltb}
 use Rattle.job.specs.Check.{jobCheck, refused}
-use Rattle.saturation.specs.Table.{Lent, tableSize, reasonsSize}
+use Rattle.machine.specs.Table.{Lent, tableSize, reasonsSize}
 use Rattle.reporting.specs.Operation.{reportCheck}
 
 module _ (job : List ℕ) (m : Lent) (codes : List ℕ) where

@@ -2,12 +2,12 @@
 use Rattle.grammar.proofs.Basics.{_≡_, _∙_, ap, List, _∷_, [], ℕ, eq-eqb, ne-eqb}
 use Rattle.job.specs.declared.Checked.{Checked}
 use Rattle.job.specs.Job.{jobOf}
-use Rattle.saturation.specs.Table.{Lent}
-use Rattle.saturation.specs.Operations.{StartOutcome, AdvanceOutcome, startOf, advanceOf}
+use Rattle.machine.specs.Table.{Lent}
+use Rattle.machine.specs.Operations.{StartOutcome, AdvanceOutcome, startOf, advanceOf}
 use Rattle.forms.specs.declared.Asked.{Asked}
 use Rattle.forms.specs.Operations.{askOf}
 use Rattle.verdicts.specs.Operation.{VerdictsOutcome, verdictsOf}
-use Rattle.text.specs.declared.Report.{Report}
+use Rattle.printing.specs.declared.Report.{Report}
 use Rattle.reporting.specs.Operation.{reportCheck, refusedReport, reportLeaves, reportFrom, runToEnd, reportOn}
 use Rattle.reporting.specs.Operation.{reportOf}
 

@@ -1,34 +1,42 @@
 -- A report that is not refused runs through: start and the steps keep the lengths of what is lent, so the checks of
 -- each call pass as those of the report do. Assumes nothing.
-use Rattle.grammar.proofs.Basics.{_≡_, refl, _∙_, sym, ap, true, false, List, _∷_, [], ℕ, _≤_, arith, ltb, length}
+use Rattle.grammar.proofs.Basics.{_≡_, refl, _∙_, sym, ap, true, false, Bool, List, _∷_, [], ℕ, zero, suc, _≤_, arith, ltb, length}
 use Rattle.grammar.proofs.Basics.{eq-eqb, ltb-false, le-ltb}
 use Rattle.job.specs.declared.Checked.{Checked}
 use Rattle.job.specs.Check.{jobCheck, orElse, shortTable, shortReasons, shortCodes}
 use Rattle.job.specs.Accepted.{Accepted}
-use Rattle.job.specs.Job.{jobOf}
+use Rattle.job.specs.Job.{fieldOf, jobOf}
 use Rattle.job.proofs.Accepted.{number-accepted, accepted-check}
-use Rattle.job.proofs.AcceptedFacts.{start-below}
+use Rattle.job.specs.Format.{byteS, recordsOf}
+use Rattle.job.proofs.AcceptedFacts.{start-below, job-start}
 use Rattle.job.proofs.JobChecks.{both-pass, not-short}
-use Rattle.saturation.specs.Table.{Lent, tableSize, reasonsSize}
-use Rattle.saturation.specs.Start.{started}
-use Rattle.saturation.specs.Advance.{steps}
-use Rattle.saturation.specs.Operations.{machineCheck, startOf, startBy, advanceOf, advanceBy}
-use Rattle.saturation.proofs.MachineChecks.{long-enough}
-use Rattle.saturation.proofs.Starts.StartLaws.{started-length, started-length-reasons}
-use Rattle.saturation.proofs.Steps.StepLaws.{steps-long, finishes}
-use Rattle.forms.specs.Operations.{firstOver, formCheck, askCheck, askOf, askBy}
+use Rattle.machine.specs.Table.{Lent, lentOf, tableSize, reasonsSize, statuses}
+use Rattle.machine.specs.Step.{isFinished}
+use Rattle.machine.specs.Start.{started}
+use Rattle.machine.specs.Advance.{steps, stepsMade, meetingsMade}
+use Rattle.machine.specs.Operations.{machineCheck, startOf, startBy, startLeaves, advanceOf, advanceBy, advanceLeaves}
+use Rattle.machine.proofs.MachineChecks.{long-enough}
+use Rattle.machine.proofs.Starts.StartLaws.{started-length, started-length-reasons}
+use Rattle.machine.proofs.Steps.StepLaws.{steps-long, finishes}
+use Rattle.forms.specs.Operations.{firstOver, formCheck, askCheck, askCheckBy, acceptsBy, acceptsOn, askOf, askBy}
+use Rattle.forms.specs.Acceptance.{SymbolsFit}
+use Rattle.bit_machine.specs.BitTable.{bitStatuses}
+use Rattle.forms.specs.Inside.AcceptanceParts.{FormFits}
+use Rattle.forms.specs.Inside.ExplainParts.{BitsSay}
+use Rattle.forms.proofs.AskAnswers.{accepts-alike}
 use Rattle.forms.proofs.FormChecks.{ask-form}
-use Rattle.verdicts.specs.Operation.{verdictsCheck, verdictsCheckBy, verdictsOn, verdictsOf}
+use Rattle.verdicts.specs.Operation.{VerdictsOutcome, verdictsCheck, verdictsCheckBy, verdictsOn, verdictsOf}
 use Rattle.verdicts.proofs.Outcome.{verdicts-given}
-use Rattle.reporting.specs.Operation.{shortBuffer, reportCheck, runToEnd}
+use Rattle.reporting.specs.Operation.{shortBuffer, reportCheck, reportLeaves, reportOn, runToEnd}
+use Rattle.reporting.proofs.Outcome.{composed}
 use Rattle.reporting.specs.Theorems.{RunsThrough}
 
 -- what the checks of the report make sure of
-record Passed (job : List ℕ) (m : Lent) (codes : List ℕ) : Type 0 where
-  long : tableSize ≤ length (m .table)
-  long-reasons : reasonsSize ≤ length (m .reasons)
-  long-codes : 64 ≤ length codes
-  ok : Accepted true job
+pub record Passed (job : List ℕ) (m : Lent) (codes : List ℕ) : Type 0 where
+  pub long : tableSize ≤ length (m .table)
+  pub long-reasons : reasonsSize ≤ length (m .reasons)
+  pub long-codes : 64 ≤ length codes
+  pub ok : Accepted true job
 
 report-passed : (job : List ℕ) (m : Lent) (codes : List ℕ) → reportCheck job m codes .number ≡ 0 → Passed job m codes
 unfolding reportCheck
@@ -43,6 +51,33 @@ report-passed job m codes e =
       long-codes = ltb-false (length codes) 64 (not-short (ltb (length codes) 64) 3 c);
       ok = number-accepted true job j;
     }
+
+pub checks-passed : {job : List ℕ} {m : Lent} {codes : List ℕ} {c : Checked} → c ≡ reportCheck job m codes →
+    c .number ≡ 0 → Passed job m codes
+checks-passed {job} {m} {codes} checked none = report-passed job m codes (rw checked at none)
+
+-- the start symbol is read, and is a form that fits
+start-symbol : (job : List ℕ) {S : ℕ} → S ≡ fieldOf byteS (recordsOf job) → S ≡ jobOf job .start
+start-symbol job read = read ∙ sym (job-start job)
+
+pub start-fits : {job : List ℕ} → Accepted true job → {S : ℕ} → S ≡ fieldOf byteS (recordsOf job) → FormFits (S ∷ [])
+start-fits {job} ok {S} read = record { short = omega arith; symbols = fits }
+  where
+    below : S ≤ 63
+    below = omega (arith, start-symbol job read, start-below ok)
+
+    fits : SymbolsFit (S ∷ [])
+    fits zero l = below
+    fits (suc i) l = absurd (omega arith)
+
+-- it is accepted on bits as on the table that says the same
+pub start-accepted : {job : List ℕ} → Accepted true job → {S : ℕ} → S ≡ fieldOf byteS (recordsOf job) →
+    (bits table : List ℕ) → BitsSay bits table → {start : Bool} →
+    start ≡ acceptsBy (jobOf job) (bitStatuses bits) (S ∷ []) →
+    start ≡ acceptsOn (jobOf job) table (jobOf job .start ∷ [])
+start-accepted {job} ok {S} read bits table same e =
+    e ∙ accepts-alike bits table (S ∷ []) ok same (start-fits ok read .symbols)
+    ∙ ap (λ X. acceptsOn (jobOf job) table (X ∷ [])) (start-symbol job read)
 
 -- a job with an I is accepted where none is needed
 without-need : {job : List ℕ} → Accepted true job → Accepted false job
@@ -73,13 +108,14 @@ module _ (job : List ℕ) (ok : Accepted true job) where
       let below : jobOf job .start ≤ 63 = omega (arith, start-below ok) in
       rw (le-ltb 63 (jobOf job .start) below)
 
-  ask-number : (table : List ℕ) → tableSize ≤ length table → askOf job table (jobOf job .start ∷ []) .number ≡ 0
-  unfolding askBy
-  ask-number table long =
+  ask-is : (table : List ℕ) → tableSize ≤ length table → askOf job table (jobOf job .start ∷ [])
+      ≡ record { number = 0; place = 0; accepted = acceptsOn (jobOf job) table (jobOf job .start ∷ []) }
+  unfolding askBy askCheckBy
+  ask-is table long =
       let form = jobOf job .start ∷ [] in
       let c = accepted-check ok in
       let z : askCheck job table form .number ≡ 0 =
-      number-of (ask-form job table form (jobCheck true job) long refl (number-of c refl)) form-passes in
+      number-of (ask-form (length table) tableSize job form long refl (number-of c refl)) form-passes in
       rw (eq-eqb (askCheck job table form .number) 0 z)
 
   verdicts-number : (table codes : List ℕ) → tableSize ≤ length table → 64 ≤ length codes →
@@ -91,46 +127,93 @@ module _ (job : List ℕ) (ok : Accepted true job) where
       ap (λ o. o .answer .number) (verdicts-given job table codes z)
 
 module _ (job : List ℕ) (m : Lent) (z : machineCheck job m .number ≡ 0) where
-  start-number : startOf job m .answer .number ≡ 0
+  -- the outcomes of start and advance
+  start-is : startOf job m
+      ≡ startLeaves (record { number = 0; place = 0; states = jobOf job .states }) (started (jobOf job) m)
   unfolding startBy
-  start-number = rw (eq-eqb (machineCheck job m .number) 0 z)
-
-  start-lent : startOf job m .lent ≡ started (jobOf job) m
-  unfolding startBy
-  start-lent = rw (eq-eqb (machineCheck job m .number) 0 z)
+  start-is = rw (eq-eqb (machineCheck job m .number) 0 z)
 
   module _ (n : ℕ) where
-    advance-number : advanceOf job m n .answer .number ≡ 0
+    advance-is : advanceOf job m n
+        ≡ advanceLeaves
+        (record {
+          number = 0;
+          place = 0;
+          finished = isFinished (statuses (steps (jobOf job .rules) n m .table));
+          steps = stepsMade (jobOf job .rules) n m;
+          meetings = meetingsMade (jobOf job .rules) n m;
+        }) (steps (jobOf job .rules) n m)
     unfolding advanceBy
-    advance-number = rw (eq-eqb (machineCheck job m .number) 0 z)
-
-    advance-lent : advanceOf job m n .lent ≡ steps (jobOf job .rules) n m
-    unfolding advanceBy
-    advance-lent = rw (eq-eqb (machineCheck job m .number) 0 z)
+    advance-is = rw (eq-eqb (machineCheck job m .number) 0 z)
 
     advance-finished : tableSize ≤ length (m .table) → tableSize ≤ n → advanceOf job m n .answer .finished ≡ true
-    unfolding advanceBy
-    advance-finished long enough =
-        rw (eq-eqb (machineCheck job m .number) 0 z) (finishes (jobOf job .rules) n m long enough)
+    advance-finished long enough = rw advance-is (finishes (jobOf job .rules) n m long enough)
+
+-- what each of the four calls of a report works on
+module _ {job : List ℕ} {m : Lent} {codes : List ℕ} (p : Passed job m codes) where
+  abbrev begun : Lent
+  begun = started (jobOf job) m
+
+  abbrev ended : Lent
+  ended = steps (jobOf job .rules) 65536 begun
+
+  begun-long : tableSize ≤ length (begun .table)
+  begun-long = rw (started-length (jobOf job) m) (p .long)
+
+  ended-long : tableSize ≤ length (ended .table)
+  ended-long = steps-long (jobOf job .rules) 65536 begun begun-long
+
+  machine-first : machineCheck job m .number ≡ 0
+  machine-first = machine-passes job (p .ok) m (p .long) (p .long-reasons)
+
+  machine-second : machineCheck job begun .number ≡ 0
+  machine-second =
+      machine-passes job (p .ok) begun begun-long (rw (started-length-reasons (jobOf job) m) (p .long-reasons))
+
+  -- so what they leave is a report, where each value is the one that the definitions give
+  pub report-ran : {states made met : ℕ} {start : Bool} {m' : Lent} {v : VerdictsOutcome} →
+      states ≡ jobOf job .states → m' ≡ ended → made ≡ stepsMade (jobOf job .rules) 65536 begun →
+      met ≡ meetingsMade (jobOf job .rules) 65536 begun →
+      start ≡ acceptsOn (jobOf job) (m' .table) (jobOf job .start ∷ []) → v ≡ verdictsOf job (m' .table) codes →
+      reportLeaves
+      (record {
+        number = 0;
+        place = 0;
+        states = states;
+        examined = made;
+        joins = met;
+        start = start;
+        empty = v .answer .empty;
+        growing = v .answer .growing;
+      }) (lentOf (v .table) (m' .reasons)) (v .codes)
+      ≡ reportOn job m codes
+  report-ran {start = start} {m'} states lent made met accepts judged =
+      composed job m codes
+      ((λ i. startLeaves (record { number = 0; place = 0; states = states i }) begun)
+      ∙ sym (start-is job m machine-first))
+      ((λ i. advanceLeaves
+      (record {
+        number = 0;
+        place = 0;
+        finished = isFinished (statuses (ended .table));
+        steps = made i;
+        meetings = met i;
+      }) (lent i))
+      ∙ sym (advance-is job begun machine-second 65536)) refl
+      ((λ i. record { number = 0; place = 0; accepted = accepts i })
+      ∙ sym (ask-is job (p .ok) (m' .table) (rw lent ended-long))) judged
 
 pub runs-through :
     (job : List ℕ) (m : Lent) (codes : List ℕ) → reportCheck job m codes .number ≡ 0 → RunsThrough job m codes
 unfolding runToEnd
 runs-through job m codes e =
     let p = report-passed job m codes e in
-    let ok = p .ok in
-    let z = machine-passes job ok m (p .long) (p .long-reasons) in
-    let s : Lent = startOf job m .lent in
-    let t : tableSize ≤ length (s .table) = rw (start-lent job m z, started-length (jobOf job) m) (p .long) in
-    let r : reasonsSize ≤ length (s .reasons) =
-    rw (start-lent job m z, started-length-reasons (jobOf job) m) (p .long-reasons) in
-    let y = machine-passes job ok s t r in
-    let u : tableSize ≤ length (advanceOf job s 65536 .lent .table) =
-    rw (advance-lent job s y 65536) (steps-long (jobOf job .rules) 65536 s t) in
+    let first = start-is job m (machine-first p) in
+    let second = advance-is job (begun p) (machine-second p) 65536 in
     record {
-      started = start-number job m z;
-      advanced = advance-number job s y 65536;
-      finished = advance-finished job s y 65536 t (omega arith);
-      asked = ask-number job ok (advanceOf job s 65536 .lent .table) u;
-      judged = verdicts-number job ok (advanceOf job s 65536 .lent .table) codes u (p .long-codes);
+      started = rw first;
+      advanced = rw (first, second);
+      finished = rw first (advance-finished job (begun p) (machine-second p) 65536 (begun-long p) (omega arith));
+      asked = rw (first, second, ask-is job (p .ok) (ended p .table) (ended-long p));
+      judged = rw (first, second) (verdicts-number job (p .ok) (ended p .table) codes (ended-long p) (p .long-codes));
     }

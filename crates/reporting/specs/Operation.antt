@@ -6,12 +6,12 @@ use lib.Dec.{eqb}
 use Rattle.job.specs.declared.Checked.{Checked}
 use Rattle.job.specs.Check.{jobCheck, shortTable, shortReasons, shortCodes, orElse}
 use Rattle.job.specs.Job.{jobOf}
-use Rattle.saturation.specs.Table.{Lent, lentOf}
-use Rattle.saturation.specs.Operations.{StartOutcome, AdvanceOutcome, startOf, advanceOf}
+use Rattle.machine.specs.Table.{Lent, lentOf}
+use Rattle.machine.specs.Operations.{StartOutcome, AdvanceOutcome, startOf, advanceOf}
 use Rattle.forms.specs.declared.Asked.{Asked}
 use Rattle.forms.specs.Operations.{askOf}
 use Rattle.verdicts.specs.Operation.{VerdictsOutcome, verdictsOf}
-use Rattle.text.specs.declared.Report.{Report}
+use Rattle.printing.specs.declared.Report.{Report}
 
 -- the first buffer that is too short: table, reasons, codes
 abbrev pub shortBuffer : Lent → List ℕ → Checked

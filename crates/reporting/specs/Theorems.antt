@@ -4,8 +4,8 @@ use Prim.Native.Nat.{ℕ}
 use mathlib.Core.Bool.{true}
 use mathlib.Core.List.{List, [], _∷_}
 use Rattle.job.specs.Job.{jobOf}
-use Rattle.saturation.specs.Table.{Lent}
-use Rattle.saturation.specs.Operations.{startOf}
+use Rattle.machine.specs.Table.{Lent}
+use Rattle.machine.specs.Operations.{startOf}
 use Rattle.forms.specs.Operations.{askOf}
 use Rattle.verdicts.specs.Operation.{verdictsOf}
 use Rattle.reporting.specs.Operation.{reportCheck, runToEnd}

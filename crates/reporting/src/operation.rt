@@ -1,13 +1,14 @@
 // The report, for every input.
+use bits::BITS_BYTES;
 use job::CODE_BYTES;
 use job::Checked;
 use job::REASON_NUMBERS;
 use job::TABLE_BYTES;
-use saturation::MOST_STEPS;
-use text::Report;
+use printing::Report;
+use transitions::MOST_STEPS;
 ghost use mathlib.Core.Path.{_≡_};
 ghost use mathlib.Core.Bool.{false};
-ghost use Rattle.saturation.specs.Table.{lentOf};
+ghost use Rattle.machine.specs.Table.{lentOf};
 ghost use Rattle.reporting.specs.Operation.{reportCheck, refusedReport, reportLeaves, reportOf};
 
 // The checks of the report: short buffers, then the job's.
@@ -33,7 +34,7 @@ fn report_check(job: &[u8], table: &[u8], reasons: &[u32], codes: &[u8]) -> Chec
             place: 3,
         };
     }
-    job::check::check(job, job::show::full_limits(), true)
+    checks::check::check(job, checks::show::full_limits(), true)
 }
 
 // The report on a refused call.
@@ -63,18 +64,18 @@ pub fn report(job: &[u8], table: &mut [u8], reasons: &mut [u32], codes: &mut [u8
     if c.number != 0 {
         return refused(c);
     }
-    let started = saturation::operations::start(job, table, reasons);
-    let advanced = saturation::operations::advance(job, table, reasons, MOST_STEPS);
-    let form = [job::lookup::field_of(job, b'S')];
-    let asked = forms::ask::ask(job, table, &form);
+    let mut bits = [0u8; BITS_BYTES];
+    let run = byte_table::run::run_from_start(job, &mut bits, table, reasons, MOST_STEPS);
+    let form = [records::lookup::field_of(job, b'S')];
+    let start = asking::acceptance::is_accepted(job, &bits, &form);
     let judged = verdicts::operation::verdicts(job, table, codes);
     Report {
         number: 0,
         place: 0,
-        states: started.states,
-        examined: advanced.steps,
-        joins: advanced.meetings,
-        start: asked.accepted,
+        states: run.states,
+        examined: run.steps,
+        joins: run.meetings,
+        start,
         empty: judged.empty,
         growing: judged.growing,
     }

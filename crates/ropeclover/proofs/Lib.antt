@@ -1,16 +1,1 @@
-pub mod CallChecks
-pub mod Outcomes
-pub mod LentKept
-pub mod SinceStart
-pub mod SideBySide
-pub mod CallsAlike
-pub mod RunKept
-pub mod RunCounts
-pub mod TwoRunsAlike
-pub mod TurnsInRuns
-pub mod WiderRuns
-pub mod Finished
-pub mod FiledTests
-pub mod FiledRight
-pub mod FiledCertificates
 pub mod Written

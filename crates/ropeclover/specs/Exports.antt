@@ -3,14 +3,14 @@ use Prim.Native.Nat.{ℕ}
 use mathlib.Core.List.{List, [], _∷_}
 use Rattle.grammar.specs.Counting.{one-if}
 use Rattle.job.specs.declared.Part.{Part}
-use Rattle.saturation.specs.declared.Started.{Started}
-use Rattle.saturation.specs.declared.Advanced.{Advanced}
+use Rattle.machine.specs.declared.Started.{Started}
+use Rattle.machine.specs.declared.Advanced.{Advanced}
 use Rattle.forms.specs.declared.Asked.{Asked}
 use Rattle.forms.specs.declared.Explained.{Explained}
 use Rattle.verdicts.specs.declared.Verdicts.{Verdicts}
 use Rattle.binarize.specs.declared.Binarized.{Binarized}
 use Rattle.clean.specs.declared.Cleaned.{Cleaned}
-use Rattle.bits.specs.declared.Counted.{Counted}
+use Rattle.bit_machine.specs.declared.Counted.{Counted}
 
 abbrev pub startNumbers : Started → List ℕ
 startNumbers a = a .number ∷ a .place ∷ a .states ∷ []

@@ -1,20 +1,19 @@
 // The C interface: each operation with its answer as a fixed array that is always written whole.
 // include/ropeclover.h is its manual.
-use crate::operations;
 use forms::Asked;
-use saturation::Advanced;
+use machine::Advanced;
 ghost use mathlib.Core.Path.{_≡_};
 ghost use mathlib.Core.List.{_∷_, []};
 ghost use lib.ListN.{length};
 ghost use Rattle.job.specs.Show.{shownPart};
-ghost use Rattle.saturation.specs.Table.{lentOf};
-ghost use Rattle.saturation.specs.Operations.{startOf, advanceOf};
-ghost use Rattle.forms.specs.Operations.{askOf, explainOf};
+ghost use Rattle.machine.specs.Table.{lentOf};
+ghost use Rattle.machine.specs.Operations.{startOf, advanceOf};
+ghost use Rattle.forms.specs.Operations.{askOf, askBitsOf, explainOf};
 ghost use Rattle.verdicts.specs.Operation.{verdictsOf};
 ghost use Rattle.ropeclover.specs.Exports.{startNumbers, advanceNumbers, askNumbers, explainNumbers};
 ghost use Rattle.binarize.specs.Operation.{binarizeOf};
 ghost use Rattle.clean.specs.Operation.{cleanOf};
-ghost use Rattle.bits.specs.Operations.{startBitsOf, advanceBitsOf, askBitsOf, doneCountOf};
+ghost use Rattle.bit_machine.specs.Operations.{startBitsOf, advanceBitsOf, doneCountOf};
 ghost use Rattle.ropeclover.specs.Exports.{verdictsNumbers, showNumbers, binarizeNumbers, cleanNumbers};
 ghost use Rattle.ropeclover.specs.Exports.{countNumbers};
 
@@ -66,7 +65,7 @@ fn write_advanced(answer: &mut [u64], r: Advanced)
         answer,
         r.number as u64,
         r.place as u64,
-        job::one_if(r.finished) as u64,
+        records::one_if(r.finished) as u64,
         r.steps,
         r.meetings,
     );
@@ -80,7 +79,7 @@ fn write_asked(answer: &mut [u64], r: Asked)
         answer,
         r.number as u64,
         r.place as u64,
-        job::one_if(r.accepted) as u64,
+        records::one_if(r.accepted) as u64,
     );
 }
 
@@ -151,7 +150,7 @@ pub extern "C" fn ropeclover_explain(
         answer,
         r.number as u64,
         r.place as u64,
-        job::one_if(r.accepted) as u64,
+        records::one_if(r.accepted) as u64,
         r.records as u64,
     );
 }
@@ -175,8 +174,8 @@ pub extern "C" fn ropeclover_verdicts(
         answer,
         r.number as u64,
         r.place as u64,
-        job::one_if(r.empty) as u64,
-        job::one_if(r.growing) as u64,
+        records::one_if(r.empty) as u64,
+        records::one_if(r.growing) as u64,
     );
 }
 
@@ -184,7 +183,7 @@ pub extern "C" fn ropeclover_verdicts(
 pub extern "C" fn ropeclover_show(job: &[u8], answer: &mut [u64; 2])
     ensures answered { λ _. ⌜ now (answer .exit) ≡ showNumbers (shownPart (now (job .entry))) ⌝ }
 {
-    let part = job::show::shown_part(job);
+    let part = checks::show::shown_part(job);
     write2(answer, part.offset as u64, part.length as u64);
 }
 

@@ -1,6 +1,2 @@
-// Ropeclover: what a context-free grammar can say. This crate is the public face: the operations, each with a
-// contract that gives, for every input, the answer and every byte of every lent buffer; the C exports; and the
-// demands as claims.
-pub mod claims;
+// The C interface of the library: `rt staticlib ropeclover` makes an archive of it. Its manual is include/ropeclover.h.
 pub mod exports;
-pub mod operations;

@@ -7,10 +7,11 @@ use Rattle.grammar.specs.Growing.{Growing}
 use Rattle.grammar.specs.Theorems.Inductive.{Leads, LeadsToTerminal, OneLeads, GrowingCycle}
 use Rattle.grammar.proofs.Graph.{leads-grows}
 use Rattle.grammar.proofs.Growth.{growing-is-cycle}
-use Rattle.verdicts.specs.Verdicts.{useful, usefulRules, leads, toTerminal, onCycle, cyclic, growing}
-use Rattle.verdicts.proofs.Tests.{any-rule, rule-any, within-among}
-use Rattle.verdicts.proofs.Rounds.{Below}
-use Rattle.verdicts.proofs.Papers.{leads-to-is, to-terminal-is, useful-rules-are}
+use Rattle.usefulness.specs.Usefulness.{useful, usefulRules, leads, toTerminal}
+use Rattle.usefulness.proofs.Tests.{any-rule, rule-any, within-among}
+use Rattle.usefulness.proofs.Rounds.{Below}
+use Rattle.usefulness.proofs.Papers.{leads-to-is, to-terminal-is, useful-rules-are}
+use Rattle.verdicts.specs.Verdicts.{onCycle, cyclic, growing}
 
 module _ (rules : List Rule) (below : Below 64 rules) where
   each-leads : (A X Y : ℕ) → ((leads rules (λ Z. eqb A Z) X && toTerminal rules Y) ≡ true)

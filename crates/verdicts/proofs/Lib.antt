@@ -1,11 +1,4 @@
-pub mod Tests
-pub mod Rounds
-pub mod KeyRules
-pub mod Raising
-pub mod InPlace
-pub mod Papers
 pub mod GrowingIsCycle
-pub mod Filling
 pub mod Cyclic
 pub mod Outcome
 pub mod Meant

@@ -9,16 +9,17 @@ use Rattle.grammar.proofs.UsefulIsBoth.{useful-both, both-useful}
 use Rattle.grammar.proofs.Growth.{growing-is-infinite, not-growing-is-finite}
 use Rattle.job.specs.Job.{jobOf}
 use Rattle.job.proofs.AcceptedFacts.{in-range}
-use Rattle.verdicts.specs.Verdicts.{productive, useful, growing, isEmpty, isNamed, codeOf}
+use Rattle.job.proofs.Filling.{written-at}
+use Rattle.usefulness.specs.Usefulness.{productive, useful}
+use Rattle.usefulness.proofs.Rounds.{Below}
+use Rattle.usefulness.proofs.Bodies.{range-below}
+use Rattle.usefulness.proofs.Papers.{productive-is, useful-is}
+use Rattle.verdicts.specs.Verdicts.{growing, isEmpty, isNamed, codeOf}
 use Rattle.verdicts.specs.Operation.{verdictsCheck, verdictsOn}
 use Rattle.verdicts.specs.Meaning.{CodeIs, unnamed, usefulSymbol, unproductive, outOfContext}
 use Rattle.verdicts.specs.Theorems.Meant.{Meant}
-use Rattle.verdicts.proofs.Rounds.{Below}
-use Rattle.verdicts.proofs.KeyRules.{range-below}
-use Rattle.verdicts.proofs.Papers.{productive-is, useful-is}
 use Rattle.verdicts.proofs.GrowingIsCycle.{growing-is}
 use Rattle.verdicts.proofs.Outcome.{unrefused, verdicts-given}
-use Rattle.verdicts.proofs.Filling.{written-at}
 
 module _ (rules : List Rule) (S : ℕ) (below : Below 64 rules) where
   -- a code is the code that the papers' sets give

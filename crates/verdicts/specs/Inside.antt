@@ -1,3 +1,1 @@
-pub mod Flags
-pub mod Passes
 pub mod Cycles

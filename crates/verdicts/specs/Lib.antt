@@ -1,4 +1,3 @@
-pub mod Sets
 pub mod Verdicts
 pub mod Operation
 pub mod Meaning

@@ -1,12 +1,13 @@
 -- The whole outcome of the verdicts, for every input: the answer, the table and the codes. Assumes nothing.
-use Prim.Native.Nat.{ℕ, zero, suc}
+use Prim.Native.Nat.{ℕ}
 use mathlib.Core.Bool.{false, cond}
-use mathlib.Core.List.{List, [], _∷_}
+use mathlib.Core.List.{List}
 use lib.Dec.{eqb}
 use Rattle.job.specs.declared.Checked.{Checked}
 use Rattle.job.specs.Check.{Checks, jobCheck, shortTable, shortCodes, orElse}
 use Rattle.job.specs.Clear.{cleared}
 use Rattle.job.specs.Job.{Job, jobOf}
+use Rattle.job.specs.Written.{written}
 use Rattle.verdicts.specs.declared.Verdicts.{Verdicts}
 use Rattle.verdicts.specs.Verdicts.{codeOf, isEmpty, growing}
 
@@ -18,12 +19,6 @@ verdictsCheckBy checks job table codes = orElse (orElse (shortTable table) (shor
 -- and by the checks of this product
 abbrev pub verdictsCheck : List ℕ → List ℕ → List ℕ → Checked
 verdictsCheck = verdictsCheckBy jobCheck
-
--- the first n numbers become f i, f (i + 1) and so on, the rest stay
-unfoldable pub written : (ℕ → ℕ) → ℕ → ℕ → List ℕ → List ℕ
-written f i zero xs = xs
-written f i (suc n) [] = []
-written f i (suc n) (x ∷ xs) = f i ∷ written f (suc i) n xs
 
 -- what the verdicts leave: the answer, the table and the codes
 pub record VerdictsOutcome : Type 0 where

@@ -1,6 +1,4 @@
 // The code of each symbol.
-use crate::flags;
-use job::RULES;
 use job::Rule;
 use job::SYMBOLS;
 ghost use mathlib.Core.Path.{_≡_};
@@ -8,9 +6,10 @@ ghost use mathlib.Core.Bool.{Bool, cond, _||_};
 ghost use Prim.Native.Nat.{ℕ, _<_, _≤_};
 ghost use lib.Dec.{eqb};
 ghost use lib.ListN.{length};
+ghost use Rattle.job.specs.Written.{written};
+ghost use Rattle.job.specs.Inside.Keys.{Keys, rulesOfKeys, ruleFrom, RuleFits};
+ghost use Rattle.usefulness.specs.Inside.Flags.{Flags, Bits};
 ghost use Rattle.verdicts.specs.Verdicts.{names, isNamed};
-ghost use Rattle.verdicts.specs.Operation.{written};
-ghost use Rattle.verdicts.specs.Inside.Flags.{Flags, Holds, Bits, ruleFrom, RuleFits, Keys, rulesOfKeys};
 
 // Makes the flags of the symbols that a rule names 1.
 fn name_rule(flags: &mut [u8; SYMBOLS], rule: Rule)
@@ -19,20 +18,20 @@ fn name_rule(flags: &mut [u8; SYMBOLS], rule: Rule)
     ensures flags { λ _. ⌜ ((set : ℕ → Bool) → Flags set (now (flags .entry)) →
         Flags (λ X. set X || names X (ruleFrom rule)) (now (flags .exit))) ⌝ }
 {
-    flags::raise(flags, rule.head, true);
-    flags::raise_body(flags, rule, true);
+    usefulness::flags::raise(flags, rule.head, true);
+    usefulness::flags::raise_body(flags, rule, true);
 }
 
 // A flag for each symbol: 1 where a rule names it or it is the start symbol, else 0.
-pub fn named_symbols(keys: &[u32; RULES], n: usize, start: u8, flags: &mut [u8; SYMBOLS])
-    requires rules { ⌜ Keys (now keys) n ⌝ }
+pub fn named_symbols(keys: &[u32], start: u8, flags: &mut [u8; SYMBOLS])
+    requires rules { ⌜ Keys (now keys) ⌝ }
     requires start { ⌜ start < 64 ⌝ }
-    ensures flags { λ _. ⌜ Flags (isNamed (rulesOfKeys (now (keys .entry)) n) start) (now (flags .exit)) ⌝ }
+    ensures flags { λ _. ⌜ Flags (isNamed (rulesOfKeys (now (keys .entry))) start) (now (flags .exit)) ⌝ }
 {
-    flags::flag_one(flags, start, true);
+    usefulness::flags::flag_one(flags, start, true);
     let mut k = 0;
-    while k < n {
-        name_rule(flags, job::rules::unpack(keys[k]));
+    while k < keys.len() {
+        name_rule(flags, records::rules::unpack(keys[k]));
         k += 1;
     }
 }
@@ -61,8 +60,8 @@ pub fn write_codes(
     codes: &mut [u8],
 )
     requires long { ⌜ 64 ≤ length (now codes) ⌝ }
-    ensures codes { λ _. ⌜ ((n p u : ℕ → Bool) → Holds n (now (named .entry)) → Holds p (now (productive .entry)) →
-        Holds u (now (useful .entry)) →
+    ensures codes { λ _. ⌜ ((n p u : ℕ → Bool) → Flags n (now (named .entry)) → Flags p (now (productive .entry)) →
+        Flags u (now (useful .entry)) →
         now (codes .exit) ≡ written (λ X. cond (n X) (cond (p X) (cond (u X) 1 3) 2) 0) 0 64 (now (codes .entry))) ⌝ }
 {
     let mut x = 0;

@@ -2,7 +2,6 @@
 use crate::Verdicts;
 use crate::codes;
 use crate::cycles;
-use crate::usefulness;
 use job::CODE_BYTES;
 use job::Checked;
 use job::RULES;
@@ -14,9 +13,10 @@ ghost use Prim.Native.Nat.{_<_, _≤_};
 ghost use lib.ListN.{length};
 ghost use Rattle.job.specs.Accepted.{Accepted};
 ghost use Rattle.job.specs.Job.{jobOf};
+ghost use Rattle.job.specs.Written.{written};
+ghost use Rattle.job.specs.Inside.Keys.{Keys, rulesOfKeys};
 ghost use Rattle.verdicts.specs.Verdicts.{isEmpty, growing, codeOf};
-ghost use Rattle.verdicts.specs.Operation.{verdictsCheck, written, verdictsOn, verdictsLeave, verdictsOf};
-ghost use Rattle.verdicts.specs.Inside.Flags.{Keys, rulesOfKeys};
+ghost use Rattle.verdicts.specs.Operation.{verdictsCheck, verdictsOn, verdictsLeave, verdictsOf};
 
 // The checks of the verdicts: short buffers, then the job's, no I needed.
 fn verdicts_check(job: &[u8], table: &[u8], codes: &[u8]) -> Checked
@@ -34,31 +34,33 @@ fn verdicts_check(job: &[u8], table: &[u8], codes: &[u8]) -> Checked
             place: 3,
         };
     }
-    job::check::check(job, job::show::full_limits(), false)
+    checks::check::check(job, checks::show::full_limits(), false)
 }
 
-// The verdicts on the rules of n keys and a start symbol.
-fn judge(keys: &[u32; RULES], n: usize, start: u8, codes: &mut [u8]) -> Verdicts
-    requires rules { ⌜ Keys (now keys) n ⌝ }
+// The verdicts on the rules of some keys and a start symbol.
+fn judge(keys: &[u32], start: u8, codes: &mut [u8]) -> Verdicts
+    requires rules { ⌜ Keys (now keys) ⌝ }
     requires start { ⌜ start < 64 ⌝ }
     requires lent { ⌜ 64 ≤ length (now codes) ⌝ }
     ensures answer { λ r. ⌜ r ≡ record {
       number = 0;
       place = 0;
-      empty = isEmpty (rulesOfKeys (now (keys .entry)) n) start;
-      growing = growing (rulesOfKeys (now (keys .entry)) n) start;
+      empty = isEmpty (rulesOfKeys (now (keys .entry))) start;
+      growing = growing (rulesOfKeys (now (keys .entry))) start;
     } ⌝ }
     ensures codes { λ _. ⌜ now (codes .exit)
-        ≡ written (codeOf (rulesOfKeys (now (keys .entry)) n) start) 0 64 (now (codes .entry)) ⌝ }
+        ≡ written (codeOf (rulesOfKeys (now (keys .entry))) start) 0 64 (now (codes .entry)) ⌝ }
 {
     let mut productive = [0u8; SYMBOLS];
-    usefulness::productive_symbols(keys, n, &mut productive);
+    usefulness::symbols::productive_symbols(keys, &mut productive);
     let mut useful = [0u8; SYMBOLS];
-    usefulness::useful_symbols(keys, n, start, &productive, &mut useful);
+    usefulness::symbols::useful_symbols(keys, start, &productive, &mut useful);
     let mut named = [0u8; SYMBOLS];
-    codes::named_symbols(keys, n, start, &mut named);
+    codes::named_symbols(keys, start, &mut named);
     codes::write_codes(&named, &productive, &useful, codes);
-    let growing = cycles::any_cycle(keys, n, &useful);
+    let mut kept = [0u32; RULES];
+    let m = usefulness::rules::keep_rules(keys, &useful, &mut kept);
+    let growing = cycles::any_cycle(&kept[0..m]);
     let empty = productive[start as usize] != 1;
     Verdicts {
         number: 0,
@@ -77,10 +79,10 @@ fn give(job: &[u8], table: &mut [u8], codes: &mut [u8]) -> Verdicts
         ≡ verdictsOn (jobOf (now (job .entry))) (now (table .entry)) (now (codes .entry)) ⌝ }
 {
     let mut keys = [0u32; RULES];
-    let n = job::rules::sorted_rules(job, &mut keys);
-    let start = job::lookup::field_of(job, b'S');
-    job::clear::clear_table(table);
-    judge(&keys, n, start, codes)
+    let n = records::rules::sorted_rules(job, &mut keys);
+    let start = records::lookup::field_of(job, b'S');
+    records::clear::clear_table(table);
+    judge(&keys[0..n], start, codes)
 }
 
 // Codes of the 64 symbols, and whether the language is empty and whether it grows. The table is scratch, left 0.

@@ -161,3 +161,27 @@ fn form(random: &mut Random) -> Vec<u8> {
     let over = if random.one_in(10) { 68 } else { 64 };
     (0..length).map(|_| if random.one_in(2) { random.byte_below(8) } else { random.byte_below(over) }).collect()
 }
+
+/// A chain of reasons over 20,000 long. Variable k < 27 walks along the states r of (q, k, r) by k → k 29, and at state 31 goes on to variable
+/// k + 1 at state 0; from variable 26 the walk goes on at q + 1, by 27 → 28 26 and 0 → 27. So each transition rests on the one before, from
+/// (0, 0, 0), which is given, to (31, 26, 31).
+pub fn chain_of_reasons() -> Vec<u8> {
+    let mut job: Vec<u8> = vec![b'S', 26, 0, 0, b'I', 31, 0, 0, b'F', 31, 0, 0, b'T', 0, 0, 0, b'T', 31, 30, 0];
+    for k in 0..27 {
+        job.extend([b'P', k, k, 29]);
+    }
+    for k in 0..26 {
+        job.extend([b'P', k + 1, k, 30]);
+    }
+    job.extend([b'P', 27, 28, 26, b'U', 0, 27, 0]);
+    for q in 0..31 {
+        job.extend([b'T', q, 29, q + 1, b'T', q + 1, 28, q]);
+    }
+    job
+}
+
+/// S, I and as many transitions as a job has room for.
+pub fn most_records() -> Vec<u8> {
+    let given = (0..4_094u16).flat_map(|k| [b'T', (k / 1_024) as u8, 32 + (k / 32 % 32) as u8, (k % 32) as u8]);
+    [b'S', 0, 0, 0, b'I', 0, 0, 0].into_iter().chain(given).collect()
+}

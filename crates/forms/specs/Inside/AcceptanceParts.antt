@@ -1,47 +1,44 @@
 -- What single functions of the acceptance test take and give. Assumes nothing.
 use mathlib.Core.Path.{_≡_}
-use Prim.Native.Nat.{ℕ, _+_, _*_, _<_, _≤_}
-use mathlib.Core.Bool.{Bool, _&&_}
+use Prim.Native.Nat.{ℕ, _<_, _≤_}
+use mathlib.Core.Bool.{Bool, true, cond}
 use mathlib.Core.List.{List}
-use lib.Dec.{eqb}
+use lib.Dec.{ltb}
 use lib.ListN.{length, getD, drop}
-use Rattle.grammar.specs.Counting.{one-if}
-use Rattle.saturation.specs.Table.{doneAt}
-use Rattle.forms.specs.Acceptance.{SymbolsFit, some, canFinish}
+use Rattle.job.specs.declared.Checked.{Checked}
+use Rattle.job.specs.Accepted.{Accepted}
+use Rattle.job.specs.Check.{refused, accepted}
+use Rattle.job.specs.Job.{jobOf}
+use Rattle.machine.specs.Table.{doneIn}
+use Rattle.bit_machine.specs.BitTable.{bitOf, bitStatuses}
+use Rattle.forms.specs.Acceptance.{SymbolsFit, canFinish}
 
 -- The job: a form has 0 to 64 symbols, one byte each
 pub record FormFits (form : List ℕ) : Type 0 where
   pub short : length form ≤ 64
   pub symbols : SymbolsFit form
 
--- a list of flags as a test of states
-abbrev pub flagged : List ℕ → ℕ → Bool
-flagged flags q = eqb (getD flags q 0) 1
+-- a word for each position of a form: its ones are the states from which the form from there on leads to a final one
+abbrev pub FinishWords : (ℕ → Bool) → List ℕ → List ℕ → List ℕ → Type 0
+FinishWords final bits form finish =
+    (i q : ℕ) → i ≤ length form → q < 32 →
+    bitOf (getD finish i 0) q ≡ canFinish final (doneIn (bitStatuses bits)) (drop i form) q
 
--- the flags of a position of a form, 32 to each
-abbrev pub flaggedAt : List ℕ → ℕ → ℕ → Bool
-flaggedAt finish position q = flagged finish (position * 32 + q)
+-- the states that the word of the form's end says are final
+abbrev pub finalOf : List ℕ → List ℕ → ℕ → Bool
+finalOf form finish = bitOf (getD finish (length form) 0)
 
--- a flag for each position of a form and each state: set where the form from there on leads from the state to a final
--- one
-abbrev pub FinishFlags : (ℕ → Bool) → List ℕ → List ℕ → List ℕ → Type 0
-FinishFlags final table form finish =
-    (i q : ℕ) → i ≤ length form → q < 32 → flaggedAt finish i q ≡ canFinish final (doneAt table) (drop i form) q
+-- the words of a form are filled by an accepted job's final states, and a state is its initial one
+pub record Filled (job bits form finish : List ℕ) (q : ℕ) : Type 0 where
+  pub ok : Accepted true job
+  pub words : FinishWords (jobOf job .final) bits form finish
+  pub initial : q ≡ jobOf job .initial
 
--- the states that the flags of the end of the form say are final
-abbrev pub finalIn : List ℕ → List ℕ → ℕ → Bool
-finalIn form finish = flaggedAt finish (length form)
+-- two tests of transitions agree on a form's symbols
+abbrev pub AgreeOn : (ℕ → ℕ → ℕ → Bool) → (ℕ → ℕ → ℕ → Bool) → List ℕ → Type 0
+AgreeOn done done' form =
+    (i q r : ℕ) → i < length form → q < 32 → r < 32 → done q (getD form i 0) r ≡ done' q (getD form i 0) r
 
--- the transition with the symbol X from q to r is done, and the flag of r at the position after it is set
-abbrev pub goesOn : List ℕ → List ℕ → ℕ → ℕ → ℕ → ℕ → Bool
-goesOn table finish X next q r = doneAt table q X r && flaggedAt finish next r
-
--- 1 where some such r is there
-abbrev pub stateFlag : List ℕ → List ℕ → ℕ → ℕ → ℕ → ℕ
-stateFlag table finish X next q = one-if (some (goesOn table finish X next q) 32)
-
--- the first n flags of a position are as given, and all past the position's flags is as it was
-pub record RowFilled (before after : List ℕ) (position : ℕ) (flag : ℕ → ℕ) (n : ℕ) : Type 0 where
-  pub size : length after ≡ length before
-  pub flags : (q : ℕ) → q < n → getD after (position * 32 + q) 0 ≡ flag q
-  pub past : (k : ℕ) → position * 32 + 32 ≤ k → getD after k 0 ≡ getD before k 0
+-- Refused calls, 10: a table of a length where a greater one is needed
+abbrev pub shortOf : ℕ → ℕ → Checked
+shortOf n needed = cond (ltb n needed) (refused 10 1) accepted

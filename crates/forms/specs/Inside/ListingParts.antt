@@ -9,7 +9,7 @@ use lib.Seq.{sets}
 use Rattle.grammar.specs.Rule.{Rule}
 use Rattle.grammar.specs.Counting.{count}
 use Rattle.job.specs.Inside.Keys.{ruleOfKey}
-use Rattle.saturation.specs.Table.{tableSize, reasonsSize, symbolAt}
+use Rattle.machine.specs.Table.{tableSize, reasonsSize, symbolAt}
 use Rattle.forms.specs.declared.ReasonBytes.{ReasonBytes}
 use Rattle.forms.specs.Listing.{Listed, listing, reasonAt, premises, recordsAt, isListed, visit, depthBound}
 use Rattle.forms.specs.Listing.{listAll}

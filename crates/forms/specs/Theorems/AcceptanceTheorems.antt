@@ -7,8 +7,8 @@ use mathlib.Core.List.{List, [], _∷_, map}
 use Prim.Native.Nat.{ℕ, _<_, _≤_}
 use Rattle.grammar.specs.Automaton.{Transitions, Holds, Path, StatesBelow}
 use Rattle.job.specs.Job.{Job}
-use Rattle.saturation.specs.Table.{place, toState}
-use Rattle.saturation.specs.Smallest.{DecidesSmallest}
+use Rattle.machine.specs.Table.{place, toState}
+use Rattle.machine.specs.Smallest.{DecidesSmallest}
 use Rattle.forms.specs.Acceptance.{SymbolsFit, canFinish, isAccepted, route, DerivesGiven}
 
 -- Table and machine: the transitions that pass a test, over all 32 state numbers

@@ -6,7 +6,7 @@ use mathlib.Core.List.{List}
 use Prim.Native.Nat.{ℕ}
 use lib.ListN.{length}
 use Rattle.job.specs.Job.{Job, jobOf}
-use Rattle.saturation.specs.Table.{Lent, doneAt}
+use Rattle.machine.specs.Table.{Lent, doneAt}
 use Rattle.forms.specs.Acceptance.{route}
 use Rattle.forms.specs.Operations.{acceptsOn, explainCheck, ExplainOutcome, finishedFrom, listedFor, explainOf}
 use Rattle.forms.specs.Theorems.ListingTheorems.{Listable, IsListing, RecordsSay}

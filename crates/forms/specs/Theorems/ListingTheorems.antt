@@ -7,7 +7,7 @@ use Prim.Native.Nat.{ℕ, _*_, _≤_, _<_}
 use lib.ListN.{length, getD, take, drop}
 use Rattle.grammar.specs.Rule.{Rule, head, empty}
 use Rattle.grammar.specs.Counting.{NoRepeat}
-use Rattle.saturation.specs.Table.{tableSize, fromState, symbolAt, toState, statuses, givenReason, each, doneCount}
+use Rattle.machine.specs.Table.{tableSize, fromState, symbolAt, toState, statuses, givenReason, each, doneCount}
 use Rattle.forms.specs.Listing.{Listed, reasonAt, reasonRule, rulePremises, premises, ruleBytes, byteG}
 use Rattle.forms.specs.Listing.{recordsAt, isListed, visit, depthBound, listAll, unmarked}
 use Rattle.forms.specs.Grounded.{DonePlace, Grounded}

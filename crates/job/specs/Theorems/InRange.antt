@@ -16,9 +16,12 @@ RuleInRange (empty A) = A < 32
 RuleInRange (unit A X) = (A < 32) × (X < 64)
 RuleInRange (pair A X Y) = (A < 32) × (X < 64) × (Y < 64)
 
+abbrev pub RulesInRange : List Rule → Type 0
+RulesInRange rules = (ρ : Rule) → Among rules ρ → RuleInRange ρ
+
 -- The job: at most 256 rules and 32 states, and the states of given transitions are below the number of states
 pub record InRange (J : Job) : Type 0 where
-  pub rules : (ρ : Rule) → Among (J .rules) ρ → RuleInRange ρ
+  pub rules : RulesInRange (J .rules)
   pub rule-count : length (J .rules) ≤ 256
   pub states : J .states ≤ 32
   pub given-from : (q X r : ℕ) → J .given q X r ≡ true → q < J .states

@@ -7,32 +7,14 @@ use mathlib.Core.Bool.{true, false}
 use mathlib.Core.List.{List}
 use lib.ListN.{getD}
 use Rattle.grammar.specs.Rule.{Rule, Among}
-use Rattle.grammar.specs.Useful.{Productive, Useful, UsefulRules}
+use Rattle.grammar.specs.Useful.{Productive}
 use Rattle.grammar.specs.Growing.{Growing}
 use Rattle.grammar.specs.Language.{Infinite, Finite}
 use Rattle.job.specs.Job.{jobOf}
-use Rattle.job.specs.Theorems.InRange.{RuleInRange}
-use Rattle.verdicts.specs.Verdicts.{productive, useful, usefulRules, growing, codeOf}
+use Rattle.job.specs.Theorems.InRange.{RulesInRange}
+use Rattle.verdicts.specs.Verdicts.{growing, codeOf}
 use Rattle.verdicts.specs.Operation.{verdictsCheck, verdictsOf}
 use Rattle.verdicts.specs.Meaning.{CodeIs}
-
--- the rules are over the 64 symbols, and their heads are variables
-abbrev pub RulesInRange : List Rule → Type 0
-RulesInRange rules = (ρ : Rule) → Among rules ρ → RuleInRange ρ
-
--- the computed sets are the papers' sets
-unfoldable pub ProductiveIsMeant : Type 0
-ProductiveIsMeant =
-    (rules : List Rule) → RulesInRange rules → (X : ℕ) → (productive rules X ≡ true) ↔ Productive (Among rules) X
-
-unfoldable pub UsefulIsMeant : Type 0
-UsefulIsMeant =
-    (rules : List Rule) → RulesInRange rules → (S X : ℕ) → (useful rules S X ≡ true) ↔ Useful (Among rules) S X
-
-unfoldable pub UsefulRulesAreMeant : Type 0
-UsefulRulesAreMeant =
-    (rules : List Rule) → RulesInRange rules →
-    (S : ℕ) (ρ : Rule) → Among (usefulRules rules S) ρ ↔ UsefulRules (Among rules) S ρ
 
 -- the computed verdicts on a grammar are the papers'
 unfoldable pub CodeIsMeant : Type 0

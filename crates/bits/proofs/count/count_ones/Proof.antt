@@ -4,8 +4,8 @@ use Rattle.grammar.proofs.Basics.{_≡_, _∙_, sym, ap, refl, List, ℕ, _<_, 
 use Rattle.grammar.specs.Counting.{count}
 use Rattle.grammar.proofs.Counting.{count-cong, count-apart, count-bound}
 use lib.Count.{ones, ones-le}
-use Rattle.bits.specs.BitTable.{bitOf, bitAt, doneHalf, doneBits}
-use Rattle.bits.proofs.BitLaws.{ones-counted}
+use Rattle.bit_machine.specs.BitTable.{bitOf, bitAt, doneHalf, doneBits}
+use Rattle.bit_machine.proofs.BitLaws.{ones-counted}
 use Rattle.bits.proofs.count.count_ones.Statement.{statement}
 use Rattle.bits.proofs.count.count_ones.Tie as tie
 

@@ -1,7 +1,7 @@
 -- `count::done_count` meets its contract: a short table is refused, else its done bits are counted. Assumes nothing.
 use Rattle.grammar.proofs.Basics.{_≡_, ℕ, List, _<_, _≤_, length, lt-ltb, le-ltb, arith}
-use Rattle.bits.specs.BitTable.{bitsSize, doneBits}
-use Rattle.bits.specs.Operations.{doneCountOf}
+use Rattle.bit_machine.specs.BitTable.{bitsSize, doneBits}
+use Rattle.bit_machine.specs.Operations.{doneCountOf}
 use Rattle.bits.proofs.count.done_count.Statement.{statement}
 use Rattle.bits.proofs.count.done_count.Tie as tie
 

@@ -1,6 +1,6 @@
 -- `done_row` is the row of the done half. Assumes nothing.
 use Rattle.grammar.proofs.Basics.{_∙_, sym, arith, needs}
-use Rattle.bits.proofs.Changing.{done-bit}
+use Rattle.bit_machine.proofs.Changing.{done-bit}
 use Rattle.bits.proofs.table.done_row.Statement.{statement}
 use Rattle.bits.proofs.table.done_row.Tie as tie
 

@@ -1,7 +1,7 @@
 -- `table::has_bit` meets its contract: the byte is shifted by the place's number in it. Assumes nothing.
 use borrow.Author.Needs.{needs}
-use Rattle.bits.specs.BitTable.{bitAt}
-use Rattle.bits.proofs.BitBytes.{bit-test}
+use Rattle.bit_machine.specs.BitTable.{bitAt}
+use Rattle.bit_machine.proofs.BitBytes.{bit-test}
 use Rattle.bits.proofs.table.has_bit.Statement.{statement}
 use Rattle.bits.proofs.table.has_bit.Tie as tie
 

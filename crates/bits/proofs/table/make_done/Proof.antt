@@ -1,6 +1,6 @@
 -- `make_done` clears one bit and sets the other. Assumes nothing.
 use Rattle.grammar.proofs.Basics.{needs}
-use Rattle.bits.proofs.Changing.{done-written}
+use Rattle.bit_machine.proofs.Changing.{done-written}
 use Rattle.bits.proofs.table.make_done.Statement.{statement}
 use Rattle.bits.proofs.table.make_done.Tie as tie
 

@@ -1,6 +1,6 @@
 -- `make_pending` sets the one bit. Assumes nothing.
 use Rattle.grammar.proofs.Basics.{needs}
-use Rattle.bits.proofs.Changing.{pending-written}
+use Rattle.bit_machine.proofs.Changing.{pending-written}
 use Rattle.bits.proofs.table.make_pending.Statement.{statement}
 use Rattle.bits.proofs.table.make_pending.Tie as tie
 

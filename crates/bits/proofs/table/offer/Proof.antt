@@ -1,8 +1,8 @@
 -- `offer` leaves a place that is not absent alone, and else sets its bit and writes its reason. Assumes nothing.
 use Rattle.grammar.proofs.Basics.{_∙_, sym, arith, needs}
-use Rattle.saturation.specs.Inside.Offers.{addOffer}
-use Rattle.bits.proofs.Keeping.{kept-same}
-use Rattle.bits.proofs.Changing.{done-bit, not-absent-done, not-absent-pending, absent}
+use Rattle.machine.specs.Inside.Offers.{addOffer}
+use Rattle.bit_machine.proofs.Keeping.{kept-same}
+use Rattle.bit_machine.proofs.Changing.{done-bit, not-absent-done, not-absent-pending, absent}
 use Rattle.bits.proofs.table.offer.Statement.{statement}
 use Rattle.bits.proofs.table.offer.Tie as tie
 

@@ -1,7 +1,7 @@
 -- `pending_row` has the ones of the pending half that are not ones of the done half. Assumes nothing.
 use Rattle.grammar.proofs.Basics.{_∙_, sym, ap, ap₂, _&&_, not, arith, needs}
-use Rattle.bits.proofs.BitLaws.{bit-and, bit-not}
-use Rattle.bits.proofs.Changing.{pending-bits}
+use Rattle.bit_machine.proofs.BitLaws.{bit-and, bit-not}
+use Rattle.bit_machine.proofs.Changing.{pending-bits}
 use Rattle.bits.proofs.table.pending_row.Statement.{statement}
 use Rattle.bits.proofs.table.pending_row.Tie as tie
 

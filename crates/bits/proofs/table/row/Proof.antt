@@ -1,7 +1,7 @@
 -- `table::row` meets its contract: four bytes make the word, and each of its bits is one of a byte. Assumes nothing.
 use Rattle.grammar.proofs.Basics.{_≡_, _∙_, ap, ap₂, List, ℕ, _+_, _*_, _/_, _%_, arith, getD, needs}
-use Rattle.bits.specs.BitTable.{halfSize, bitOf, bitAt}
-use Rattle.bits.proofs.BitBytes.{word-bit}
+use Rattle.bit_machine.specs.BitTable.{halfSize, bitOf, bitAt}
+use Rattle.bit_machine.proofs.BitBytes.{word-bit}
 use Rattle.bits.proofs.table.row.Statement.{statement}
 use Rattle.bits.proofs.table.row.Tie as tie
 

@@ -1,7 +1,7 @@
 -- `there_row` has the ones of either half. Assumes nothing.
 use Rattle.grammar.proofs.Basics.{_∙_, sym, ap₂, _||_, arith, needs}
-use Rattle.bits.proofs.BitLaws.{bit-or}
-use Rattle.bits.proofs.Changing.{there-bits}
+use Rattle.bit_machine.proofs.BitLaws.{bit-or}
+use Rattle.bit_machine.proofs.Changing.{there-bits}
 use Rattle.bits.proofs.table.there_row.Statement.{statement}
 use Rattle.bits.proofs.table.there_row.Tie as tie
 

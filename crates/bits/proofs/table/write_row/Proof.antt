@@ -1,6 +1,6 @@
 -- `table::write_row` writes the four bytes of the word. Assumes nothing.
 use Rattle.grammar.proofs.Basics.{arith, length-set, needs}
-use Rattle.bits.proofs.BitBytes.{four-written, row-written}
+use Rattle.bit_machine.proofs.BitBytes.{four-written, row-written}
 use Rattle.bits.proofs.table.write_row.Statement.{statement}
 use Rattle.bits.proofs.table.write_row.Tie as tie
 

@@ -1,7 +1,7 @@
 -- `first_one` counts the zeros below the first one. Assumes nothing.
 use Rattle.grammar.proofs.Basics.{arith}
 use lib.Count.{trailing-le}
-use Rattle.bits.proofs.Words.{first}
+use Rattle.bit_machine.proofs.Words.{first}
 use Rattle.bits.proofs.word.first_one.Statement.{statement}
 use Rattle.bits.proofs.word.first_one.Tie as tie
 

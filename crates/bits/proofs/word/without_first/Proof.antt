@@ -1,6 +1,6 @@
 -- `n & (n - 1)` has all ones of n but the first. Assumes nothing.
 use Rattle.grammar.proofs.Basics.{arith, needs}
-use Rattle.bits.proofs.Words.{without}
+use Rattle.bit_machine.proofs.Words.{without}
 use Rattle.bits.proofs.word.without_first.Statement.{statement}
 use Rattle.bits.proofs.word.without_first.Tie as tie
 

@@ -1,22 +1,15 @@
 -- `numbers::number_symbols`. The invariant: the first x numbers are written, and so many useful variables are below x.
 -- Assumes nothing.
-use Rattle.grammar.proofs.Basics.{_≡_, refl, _∙_, ap, List, ℕ, _<_, _≤_, _+_, _-_, add-one, arith, length, getD}
-use Rattle.grammar.proofs.Basics.{replicate, cond, ltb, needs}
+use Rattle.grammar.proofs.Basics.{_≡_, refl, _∙_, ap, ℕ, _≤_, _+_, _-_, arith, length, replicate, cond, ltb, needs}
 use Rattle.grammar.specs.Counting.{count}
 use Rattle.grammar.proofs.Counting.{count-bound}
-use Rattle.verdicts.specs.Operation.{written}
-use Rattle.verdicts.specs.Inside.Flags.{flagged, Bits}
-use Rattle.verdicts.proofs.Filling.{written-long, written-more, written-at}
+use Rattle.job.specs.Written.{written}
+use Rattle.job.proofs.Filling.{written-long, written-more, written-at}
+use Rattle.usefulness.specs.Inside.Flags.{flagged}
+use Rattle.usefulness.proofs.Raising.{counted-more}
 use Rattle.clean.specs.Copy.{newNumber}
 use Rattle.clean.proofs.numbers.number_symbols.Statement.{statement}
 use Rattle.clean.proofs.numbers.number_symbols.Tie as tie
-
--- how many are useful below the next symbol
-counted-more : (useful : List ℕ) (x below : ℕ) → Bits useful → x < 64 → below ≡ count (flagged useful) x →
-    below + getD useful x 0 ≡ count (flagged useful) (x + 1)
-unfolding count
-counted-more useful x below bits h e =
-    rw (e, add-one x) (ap (λ (n : ℕ). count (flagged useful) x + n) (bits .at x h))
 
 abbrev Inv-loop : tie.InvT-loop
 Inv-loop useful numbers₀ below₀ x₀ numbers below x =

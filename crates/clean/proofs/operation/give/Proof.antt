@@ -3,16 +3,17 @@ use Rattle.grammar.proofs.Basics.{_≡_, _∙_, sym, List, ℕ, arith, needs}
 use Rattle.grammar.specs.Rule.{Rule}
 use Rattle.job.specs.Job.{jobOf}
 use Rattle.job.proofs.AcceptedFacts.{job-start, start-below}
-use Rattle.job.proofs.Keys.{keys-within, keys-long, keys-fit, rules-of-keys}
+use Rattle.job.proofs.Keys.{keys-long, keys-lent, rules-lent}
 use Rattle.clean.specs.Operation.{CleanOutcome, cleanOn}
 use Rattle.clean.proofs.operation.give.Statement.{statement}
 use Rattle.clean.proofs.operation.give.Tie as tie
 
 copy-requires : tie.Need-copy-requires
 copy-requires c κs =
-    let f = c .before .before in
-    let s = f .before .before .before .before .before in (
-      search (keys-within (s .pre), keys-long (s .pre), keys-fit (s .pre)),
+    let f = c .before .before .before in
+    let r = f .before in
+    let s = r .before .before .before .before in (
+      keys-lent (s .pre) _ _ (r .sorted-rules .ensures .0) (r .sorted-rules .ensures .1),
       omega (arith, f .field-of .ensures, job-start (s .args .job .now), start-below (s .pre)),
     )
 
@@ -24,14 +25,20 @@ by-the-job job out e f l = rw (← e, ← f) l
 returns : tie.Need-returns
 returns c =
     let k = c .before .before in
-    let f = k .before .before .before in
+    let f = k .before .before .before .before in
     let r = f .before in
     let s = r .before .before .before .before in
     let job = s .args .job .now in
     by-the-job job (s .args .out .now)
-    (rules-of-keys (s .pre) _ _ (r .sorted-rules .ensures .0) (r .sorted-rules .ensures .1))
+    (rules-lent (s .pre) _ _ (r .sorted-rules .ensures .0) (r .sorted-rules .ensures .1))
     (f .field-of .ensures ∙ sym (job-start job)) (k .copy .ensures)
+
+-- no more keys than the array holds
+few : tie.Need-part-copy-end
+few c =
+    let r = c .before .before in
+    keys-long (r .before .before .before .before .pre) _ _ (r .sorted-rules .ensures .0) (r .sorted-rules .ensures .1)
 
 pub give-spec : {M : Type 1} → statement M
 give-spec = tie.close (tie.spec (λ c κs. c .before .before .before .pre .few-rules) (λ c κs. search needs)
-    copy-requires (λ c. search needs) returns)
+    (λ c. omega arith) (λ c. omega arith) few copy-requires (λ c. search needs) returns)

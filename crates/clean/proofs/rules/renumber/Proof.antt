@@ -3,7 +3,7 @@ use Rattle.grammar.proofs.Basics.{_≡_, List, ℕ, eq-eqb, ne-eqb, needs}
 use Rattle.job.specs.Format.{byteE, byteU}
 use Rattle.job.specs.Job.{emptyRecord, unitRecord, pairRecord}
 use Rattle.job.specs.declared.Rule as declared
-use Rattle.verdicts.specs.Inside.Flags.{ruleFrom}
+use Rattle.job.specs.Inside.Keys.{ruleFrom}
 use Rattle.clean.specs.Inside.Parts.{numberIn, renumberedRecord}
 use Rattle.clean.proofs.rules.renumber.Statement.{statement}
 use Rattle.clean.proofs.rules.renumber.Tie as tie

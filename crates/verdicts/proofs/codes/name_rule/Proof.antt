@@ -1,9 +1,9 @@
 -- `verdicts::codes::name_rule` meets its contract: the head and the symbols of the body are raised. Assumes nothing.
 use Rattle.grammar.proofs.Basics.{or-assoc, arith}
-use Rattle.verdicts.specs.Sets.{anyIn}
-use Rattle.verdicts.specs.Inside.Flags.{flagged}
-use Rattle.verdicts.proofs.Raising.{flags-bits, flags-alike}
-use Rattle.verdicts.proofs.KeyRules.{from-head}
+use Rattle.job.proofs.KeyRules.{from-head}
+use Rattle.usefulness.specs.Sets.{anyIn}
+use Rattle.usefulness.specs.Inside.Flags.{flagged}
+use Rattle.usefulness.proofs.Raising.{flags-bits, flags-alike}
 use Rattle.verdicts.proofs.codes.name_rule.Statement.{statement}
 use Rattle.verdicts.proofs.codes.name_rule.Tie as tie
 

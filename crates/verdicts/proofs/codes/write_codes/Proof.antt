@@ -1,8 +1,9 @@
 -- `verdicts::codes::write_codes` meets its contract: the first x codes are written. Assumes nothing.
-use Rattle.grammar.proofs.Basics.{_≡_, refl, _∙_, Bool, cond, ℕ, _≤_, _-_, arith, length, length-set, needs}
-use Rattle.verdicts.specs.Operation.{written}
-use Rattle.verdicts.specs.Inside.Flags.{Holds}
-use Rattle.verdicts.proofs.Filling.{written-more}
+use Rattle.grammar.proofs.Basics.{_≡_, refl, _∙_, Bool, cond, ℕ, _<_, _≤_, _-_, arith, length, length-set, needs}
+use Rattle.job.specs.Written.{written}
+use Rattle.job.proofs.Filling.{written-more}
+use Rattle.usefulness.specs.Inside.Flags.{Flags}
+use Rattle.usefulness.proofs.Raising.{flags-test}
 use Rattle.verdicts.proofs.codes.write_codes.Statement.{statement}
 use Rattle.verdicts.proofs.codes.write_codes.Tie as tie
 
@@ -12,7 +13,7 @@ code n p u X = cond (n X) (cond (p X) (cond (u X) 1 3) 2) 0
 abbrev Inv-loop : tie.InvT-loop
 Inv-loop named productive useful codes₀ x₀ codes x =
     (x ≤ 64) × (length codes ≡ length codes₀)
-    × ((n p u : ℕ → Bool) → Holds n named → Holds p productive → Holds u useful →
+    × ((n p u : ℕ → Bool) → Flags n named → Flags p productive → Flags u useful →
     codes ≡ written (code n p u) 0 x codes₀)
 
 abbrev μ-loop : tie.MeasureT-loop
@@ -26,12 +27,12 @@ loop-again : tie.Need-loop-again Inv-loop μ-loop
 loop-again c =
     let l = c .before .before .before .before .before in
     let x = l .loop .x in
-    let h : x ≤ 63 = omega arith in (
+    let h : x < 64 = omega arith in (
       omega arith,
       length-set (l .loop .codes) x (c .code-of .result) ∙ l .loop .inv .1,
       λ n p u named productive useful. written-more (code n p u) x (l .before .before .args .codes .now) (omega arith)
           (l .loop .inv .2 n p u named productive useful)
-          (c .code-of .ensures ∙ rw (named x (omega arith), productive x (omega arith), useful x (omega arith))),
+          (c .code-of .ensures ∙ rw (flags-test named x h, flags-test productive x h, flags-test useful x h)),
     )
 
 returns : tie.Need-returns Inv-loop μ-loop

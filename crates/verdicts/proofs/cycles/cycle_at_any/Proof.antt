@@ -1,48 +1,41 @@
 -- `verdicts::cycles::cycle_at_any` meets its contract: none of the first a variables heads a pair rule on a cycle that
 -- grows. Assumes nothing.
-use Rattle.grammar.proofs.Basics.{_≡_, _∙_, sym, false, Bool, ℕ, _<_, _≤_, _-_, arith}
+use Rattle.grammar.proofs.Basics.{_≡_, _∙_, sym, false, ℕ, _<_, _≤_, _-_, arith}
 use borrow.Author.Count.{below-none, below-more}
-use Rattle.verdicts.specs.Sets.{within}
-use Rattle.verdicts.specs.Verdicts.{toTerminal}
-use Rattle.verdicts.specs.Inside.Flags.{Holds, rulesOfKeys}
+use Rattle.job.specs.Inside.Keys.{rulesOfKeys}
+use Rattle.job.proofs.KeyRules.{keys-in-range, head-below}
 use Rattle.verdicts.specs.Inside.Cycles.{cycleAt}
-use Rattle.verdicts.proofs.Tests.{within-among}
-use Rattle.verdicts.proofs.KeyRules.{keys-head-below}
 use Rattle.verdicts.proofs.Cyclic.{cyclic-found, cyclic-none}
 use Rattle.verdicts.proofs.cycles.cycle_at_any.Statement.{statement}
 use Rattle.verdicts.proofs.cycles.cycle_at_any.Tie as tie
 
 abbrev Inv-loop : tie.InvT-loop
-Inv-loop keys n counts terminal a₀ a =
-    (a ≤ 32)
-    × ((counting : ℕ → Bool) → Holds counting counts →
-    Holds (toTerminal (within counting (rulesOfKeys keys n))) terminal → (A : ℕ) → A < a →
-    cycleAt A (within counting (rulesOfKeys keys n)) ≡ false)
+Inv-loop keys terminal a₀ a = (a ≤ 32) × ((A : ℕ) → A < a → cycleAt A (rulesOfKeys keys) ≡ false)
 
 abbrev μ-loop : tie.MeasureT-loop
-μ-loop keys n counts terminal a₀ a = 32 - a
+μ-loop keys terminal a₀ a = 32 - a
 
 returns : tie.Need-returns Inv-loop μ-loop
-returns c = λ counting cs t.
-    sym (cyclic-found _ (c .before .before .before .loop .a)
-    (sym (c .before .cycle-at .ensures counting cs t) ∙ c .if1 .taken))
+returns c =
+    sym (cyclic-found _ (c .before .before .before .loop .a) (sym (c .before .cycle-at .ensures) ∙ c .if1 .taken))
 
 loop-again : tie.Need-loop-again Inv-loop μ-loop
 loop-again c =
     let l = c .before .before .before in (
       omega arith,
-      λ counting cs t. below-more _ (l .loop .a) (l .loop .inv .1 counting cs t)
-          (sym (c .before .cycle-at .ensures counting cs t) ∙ c .if1 .left),
+      below-more _ (l .loop .a) (l .loop .inv .1) (sym (c .before .cycle-at .ensures) ∙ c .if1 .left),
     )
 
 returns-2 : tie.Need-returns-2 Inv-loop μ-loop
-returns-2 c = λ counting cs t.
+returns-2 c =
     let l = c .before in
+    let s = l .before .before in
     sym
     (cyclic-none _
-    (λ ρ m. keys-head-below (l .before .pre) ρ (within-among counting _ ρ m .0))
-    (λ A h. l .loop .inv .1 counting cs t A (omega arith)))
+    (λ ρ m. head-below ρ (keys-in-range (s .args .keys .now) (s .pre .0 .fit) ρ m))
+    (λ A h. l .loop .inv .1 A (omega arith)))
 
 pub cycle-at-any-spec : {M : Type 1} → statement M
-cycle-at-any-spec = tie.close (tie.spec Inv-loop μ-loop (λ c. (omega arith, λ counting cs t. below-none _))
-    (λ c κs. (c .before .before .pre, omega arith)) returns (λ c. omega arith) (λ c. omega arith) loop-again returns-2)
+cycle-at-any-spec = tie.close (tie.spec Inv-loop μ-loop (λ c. (omega arith, below-none _))
+    (λ c κs. let s = c .before .before .before in (s .pre .0, (s .pre .1, omega arith))) returns (λ c. omega arith)
+    (λ c. omega arith) loop-again returns-2)

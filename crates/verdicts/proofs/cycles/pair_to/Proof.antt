@@ -1,6 +1,6 @@
 -- `verdicts::cycles::pair_to` meets its contract: each way out follows the rule by its kind. Assumes nothing.
 use Rattle.grammar.proofs.Basics.{eq-eqb, ne-eqb, needs}
-use Rattle.verdicts.proofs.KeyRules.{pair-by-kind}
+use Rattle.verdicts.proofs.Cyclic.{pair-by-kind}
 use Rattle.verdicts.proofs.cycles.pair_to.Statement.{statement}
 use Rattle.verdicts.proofs.cycles.pair_to.Tie as tie
 

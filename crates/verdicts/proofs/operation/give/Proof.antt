@@ -4,11 +4,12 @@ use Rattle.grammar.proofs.Basics.{_≡_, _∙_, sym, List, ℕ, arith, needs}
 use Rattle.grammar.specs.Rule.{Rule}
 use Rattle.job.specs.Clear.{cleared}
 use Rattle.job.specs.Job.{Job, jobOf}
+use Rattle.job.specs.Written.{written}
 use Rattle.job.proofs.AcceptedFacts.{job-start, start-below}
-use Rattle.job.proofs.Keys.{keys-within, keys-long, keys-fit, rules-of-keys}
+use Rattle.job.proofs.Keys.{keys-long, keys-lent, rules-lent}
 use Rattle.verdicts.specs.declared.Verdicts.{Verdicts}
 use Rattle.verdicts.specs.Verdicts.{isEmpty, growing, codeOf}
-use Rattle.verdicts.specs.Operation.{written, verdictsOn, verdictsLeave}
+use Rattle.verdicts.specs.Operation.{verdictsOn, verdictsLeave}
 use Rattle.verdicts.proofs.operation.give.Statement.{statement}
 use Rattle.verdicts.proofs.operation.give.Tie as tie
 
@@ -24,23 +25,32 @@ left J table codes e f t p = rw (t, p .0, p .1, e, f)
 
 judge-requires : tie.Need-judge-requires
 judge-requires c κs =
-    let f = c .before .before .before .before .before .before in
-    let s = f .before .before .before .before .before .before in (
-      search (keys-within (s .pre .0), keys-long (s .pre .0), keys-fit (s .pre .0)),
+    let f = c .before .before .before .before .before .before .before in
+    let r = f .before in
+    let s = r .before .before .before .before .before in (
+      keys-lent (s .pre .0) _ _ (r .sorted-rules .ensures .0) (r .sorted-rules .ensures .1),
       (omega (arith, f .field-of .ensures, job-start (s .args .job .now), start-below (s .pre .0)), s .pre .1 .1),
     )
 
 returns : tie.Need-returns
 returns c =
-    let t = c .before .before .before .before .before .before .before in
+    let t = c .before .before .before .before .before .before .before .before in
     let f = t .before .before in
     let r = f .before in
     let s = r .before .before .before .before .before in
     let job = s .args .job .now in
     left (jobOf job) (s .args .table .now) (s .args .codes .now)
-    (rules-of-keys (s .pre .0) _ _ (r .sorted-rules .ensures .0) (r .sorted-rules .ensures .1))
+    (rules-lent (s .pre .0) _ _ (r .sorted-rules .ensures .0) (r .sorted-rules .ensures .1))
     (f .field-of .ensures ∙ sym (job-start job)) (t .clear-table .ensures) (c .before .before .judge .ensures)
+
+-- no more keys than the array holds
+few : tie.Need-part-judge-end
+few c =
+    let r = c .before .before .before .before .before .before in
+    keys-long (r .before .before .before .before .before .pre .0) _ _ (r .sorted-rules .ensures .0)
+    (r .sorted-rules .ensures .1)
 
 pub give-spec : {M : Type 1} → statement M
 give-spec = tie.close (tie.spec (λ c κs. c .before .before .before .before .pre .0 .few-rules) (λ c κs. search needs)
-    (λ c κs. search needs) judge-requires (λ c. search needs) (λ c. search needs) returns)
+    (λ c κs. search needs) (λ c. omega arith) (λ c. omega arith) few judge-requires (λ c. search needs)
+    (λ c. search needs) returns)

@@ -1,7 +1,7 @@
 -- `verdicts::theorems::code_is_meant` meets its contract: the tests of the code are the papers' sets. Assumes nothing.
+use Rattle.usefulness.proofs.Bodies.{range-below}
 use Rattle.verdicts.specs.Theorems.Meant.{CodeIsMeant}
 use Rattle.verdicts.proofs.Meant.{code-meant}
-use Rattle.verdicts.proofs.KeyRules.{range-below}
 use Rattle.verdicts.proofs.theorems.code_is_meant.Statement.{statement}
 use Rattle.verdicts.proofs.theorems.code_is_meant.Tie as tie
 

@@ -1,0 +1,3 @@
+// Start and advance on a lent bit table.
+pub mod begin;
+pub mod operations;

@@ -1,5 +1,0 @@
-pub mod BitTable
-pub mod Machine
-pub mod Operations
-pub mod Theorems
-pub mod Inside

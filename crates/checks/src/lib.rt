@@ -1,0 +1,3 @@
+// The checks of a job, and showing the record that they refuse.
+pub mod check;
+pub mod show;

@@ -1,0 +1,53 @@
+-- The check of a call depends on the lengths of what is lent and on the check of the job, so it is the same in both
+-- runs and all along a run. Assumes nothing.
+use Rattle.grammar.proofs.Basics.{_≡_, true, false, Bool, cond, List, ℕ, _≤_, arith, eqb, ltb, length, cases}
+use Rattle.job.specs.declared.Checked.{Checked}
+use Rattle.job.specs.Check.{jobCheck, shortTable, shortReasons, refused, accepted, orElse}
+use Rattle.job.specs.Accepted.{Accepted}
+use Rattle.job.proofs.JobChecks.{check-number}
+use Rattle.machine.specs.Table.{Lent, tableSize, reasonsSize}
+use Rattle.machine.specs.Operations.{machineCheck, machineCheckBy}
+use Rattle.forms.specs.Operations.{formCheck, askCheck, askCheckBy, explainCheck, explainCheckBy}
+use Rattle.forms.proofs.FormChecks.{form-number}
+use Rattle.verdicts.specs.Operation.{verdictsCheck, verdictsCheckBy}
+use Rattle.claims.specs.Call.{Call, start, advance, ask, explain, verdicts}
+use Rattle.claims.specs.Alike.{SameLengths, SameCall, same-start, same-advance, same-ask, same-explain}
+use Rattle.claims.specs.Alike.{same-verdicts}
+
+-- the check of a call
+unfoldable pub callCheck : List ℕ → Lent → Call → Checked
+callCheck job m start = machineCheck job m
+callCheck job m (advance n) = machineCheck job m
+callCheck job m (ask form) = askCheck job (m .table) form
+callCheck job m (explain form listing) = explainCheck job m form
+callCheck job m (verdicts codes) = verdictsCheck job (m .table) codes
+
+pub call-check-alike :
+    (a b : List ℕ) → ((needed : Bool) → jobCheck needed a ≡ jobCheck needed b) → (m n : Lent) →
+    SameLengths m n → {c d : Call} → SameCall c d → callCheck a m c ≡ callCheck b n d
+unfolding callCheck machineCheckBy askCheckBy explainCheckBy verdictsCheckBy
+call-check-alike a b e m n long same-start = rw (long .table, long .reasons, e true)
+call-check-alike a b e m n long (same-advance k) = rw (long .table, long .reasons, e true)
+call-check-alike a b e m n long (same-ask form) = rw (long .table, e true)
+call-check-alike a b e m n long (same-explain form out other same) = rw (long .table, long .reasons, e true)
+call-check-alike a b e m n long (same-verdicts codes other same) = rw (long .table, same, e false)
+
+-- the refusals of explain's checks come before 13
+either-number : (k : ℕ) (c d : Checked) → c .number ≤ k → d .number ≤ k → orElse c d .number ≤ k
+either-number k c d a b = cases (eqb (c .number) 0) (λ t. rw t b) (λ t. rw t a)
+
+short-number : (short : Bool) (place : ℕ) → cond short (refused 10 place) accepted .number ≤ 12
+short-number true place = omega arith
+short-number false place = omega arith
+
+pub explain-number :
+    (job : List ℕ) (m : Lent) (form : List ℕ) → Accepted false job → explainCheck job m form .number ≤ 12
+unfolding explainCheckBy machineCheckBy
+explain-number job m form ok =
+    let short = orElse (shortTable (m .table)) (shortReasons (m .reasons)) in
+    either-number 12 (orElse short (jobCheck true job)) (formCheck form)
+    (either-number 12 short (jobCheck true job)
+    (either-number 12 (shortTable (m .table)) (shortReasons (m .reasons))
+    (short-number (ltb (length (m .table)) tableSize) 1) (short-number (ltb (length (m .reasons)) reasonsSize) 2))
+    (omega (arith, check-number true ok)))
+    (form-number form)

@@ -1,0 +1,16 @@
+pub mod CallChecks
+pub mod Outcomes
+pub mod LentKept
+pub mod SinceStart
+pub mod SideBySide
+pub mod CallsAlike
+pub mod RunKept
+pub mod RunCounts
+pub mod TwoRunsAlike
+pub mod TurnsInRuns
+pub mod WiderRuns
+pub mod BitsAlike
+pub mod Finished
+pub mod FiledTests
+pub mod FiledRight
+pub mod FiledCertificates

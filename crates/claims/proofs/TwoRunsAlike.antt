@@ -1,0 +1,63 @@
+-- Demand 3: two runs side by side stay so after each call, whose outcomes are alike; and each run keeps what it does
+-- not write and counts right. By induction on the list of calls. Assumes nothing.
+use Rattle.grammar.proofs.Basics.{_∙_, sym, false, Bool, _||_, List, ℕ}
+use Rattle.job.specs.Accepted.{Accepted}
+use Rattle.job.specs.Job.{jobOf}
+use Rattle.job.specs.Order.{SameRecords}
+use Rattle.job.proofs.Accepted.{check-accepts}
+use Rattle.job.proofs.AcceptedFacts.{in-range}
+use Rattle.job.proofs.JobChecks.{nothing-shown}
+use Rattle.job.proofs.OrderFree.{accepted-permutes, accepted-same-job}
+use Rattle.machine.specs.Table.{Lent}
+use Rattle.machine.proofs.Starts.StartCounts.{smallest-is-counted}
+use Rattle.claims.specs.Call.{Call, outcomeOf, runOf, runBy}
+use Rattle.claims.specs.Alike.{SameCalls, TraceAlike, settles}
+use Rattle.claims.specs.Counts.{idle}
+use Rattle.claims.specs.TwoRuns.{TwoRuns}
+use Rattle.claims.proofs.SideBySide.{SideBySide}
+use Rattle.claims.proofs.CallsAlike.{call-alike}
+use Rattle.claims.proofs.RunKept.{call-keeps, run-kept}
+use Rattle.claims.proofs.RunCounts.{run-counted}
+use Rattle.claims.specs.Alike as alike
+
+module _ (a b : List ℕ) (records : SameRecords a b) (ok : Accepted false a) where
+  trace-alike : (m n : Lent) (known : Bool) → SideBySide a b m n known → {cs ds : List Call} → SameCalls cs ds →
+      TraceAlike known (runOf a m cs) (runOf b n ds)
+  unfolding runBy
+  trace-alike m n known runs alike.none = alike.none
+  trace-alike m n known runs (alike.more {c = c} {d = d} same calls) =
+      let now = call-alike a b m n known runs same in
+      let k = call-keeps a ok m c in
+      let l = call-keeps b (accepted-permutes records ok) n d in
+      alike.more now
+      (trace-alike (outcomeOf a m c .lent) (outcomeOf b n d .lent) (known || settles (outcomeOf a m c .answer))
+      (record {
+        records = records;
+        ok = ok;
+        long =
+            record {
+              table = k .long-table ∙ runs .long .table ∙ sym (l .long-table);
+              reasons = k .long-reasons ∙ runs .long .reasons ∙ sym (l .long-reasons);
+            };
+        alike = now .lent;
+      })
+      calls)
+
+pub two-runs : TwoRuns
+unfolding TwoRuns
+two-runs a b checked records m n long cs ds calls known same =
+    let ok : Accepted false a = check-accepts false a .0 checked in
+    let runs : SideBySide a b m n known = record { records = records; ok = ok; long = long; alike = same } in
+    let second = accepted-permutes records ok in
+    let counted = smallest-is-counted (jobOf a) (in-range ok) in
+    record {
+      alike = trace-alike a b records ok m n known runs calls;
+      keptFirst = run-kept a ok m cs;
+      keptSecond = run-kept b second n ds;
+      transitions = counted .0;
+      smallest = counted .1;
+      countsFirst = run-counted a ok (counted .0) (counted .1) m cs idle tt;
+      countsSecond = run-counted b second (counted .0) (rw (← accepted-same-job records ok) (counted .1)) n ds idle tt;
+      shownFirst = nothing-shown ok;
+      shownSecond = nothing-shown second;
+    }

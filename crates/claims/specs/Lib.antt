@@ -1,0 +1,9 @@
+pub mod Call
+pub mod FinishedTables
+pub mod Alike
+pub mod Counts
+pub mod TwoRuns
+pub mod Turns
+pub mod WiderClasses
+pub mod BitsAlike
+pub mod Filed

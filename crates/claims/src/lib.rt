@@ -1,0 +1,44 @@
+// The demands as claims: each is carried by a function with an empty body.
+ghost use Rattle.claims.specs.BitsAlike.{CallsAlike, RunsAlike};
+ghost use Rattle.claims.specs.Filed.{FiledGrammars};
+ghost use Rattle.claims.specs.FinishedTables.{FinishedTables};
+ghost use Rattle.claims.specs.Turns.{TurnsInRuns};
+ghost use Rattle.claims.specs.TwoRuns.{TwoRuns};
+ghost use Rattle.claims.specs.WiderClasses.{WiderClasses};
+
+// Demand 2: a table finished from a job's start holds the smallest set, and accepts just the forms that derive a
+// string of the automaton.
+pub fn finished_tables()
+    ensures theorem { λ r. ⌜ FinishedTables ⌝ }
+{}
+
+// Demand 3: two runs of a list of calls, the records in different orders, are alike, and the counts add up.
+pub fn two_runs()
+    ensures theorem { λ r. ⌜ TwoRuns ⌝ }
+{}
+
+// As long as only advances and explains have written since a start, turns fall from a transition to its premises.
+pub fn turns_in_runs()
+    ensures theorem { λ r. ⌜ TurnsInRuns ⌝ }
+{}
+
+// The proved grammars on file: what is said of each holds by the definitions.
+pub fn filed_grammars()
+    ensures theorem { λ r. ⌜ FiledGrammars ⌝ }
+{}
+
+// Every job that was accepted while P records had variables only is accepted, and every list of calls on it gives what
+// it gave: past the checks all depends on the canonical job alone.
+pub fn wider_classes()
+    ensures theorem { λ r. ⌜ WiderClasses ⌝ }
+{}
+
+// On a bit table and a byte table that say the same, each call answers the same and leaves such tables.
+pub fn calls_alike()
+    ensures theorem { λ r. ⌜ CallsAlike ⌝ }
+{}
+
+// So from a start, after any advances, both kinds of table are alike.
+pub fn runs_alike()
+    ensures theorem { λ r. ⌜ RunsAlike ⌝ }
+{}

@@ -1,0 +1,8 @@
+pub mod Tables
+pub mod Steps
+pub mod Growing
+pub mod Starts
+pub mod Reasons
+pub mod Offers
+pub mod Indexes
+pub mod MachineChecks

@@ -1,0 +1,74 @@
+// The texts of the programs, written into a lent buffer, for every input. A text is counted first, in a part of the
+// buffer that has no bytes, so that a buffer that is too short for it is left as it was.
+use crate::Report;
+use crate::Written;
+use crate::texts;
+ghost use mathlib.Core.Path.{_≡_};
+ghost use Rattle.printing.specs.Texts.{reportText, codesText, explainText};
+ghost use Rattle.printing.specs.Written.{writtenOf};
+
+// Refused: so many bytes are needed.
+fn too_short(needed: usize) -> Written
+    ensures refused { λ r. ⌜ r ≡ record { number = 13; place = needed; bytes = 0 } ⌝ }
+{
+    Written {
+        number: 13,
+        place: needed,
+        bytes: 0,
+    }
+}
+
+// Writes the report's text.
+pub fn report_text(report: Report, out: &mut [u8]) -> Written
+    ensures written { λ r. ⌜ record { answer = r; out = now (out .exit) }
+        ≡ writtenOf (reportText report) (now (out .entry)) ⌝ }
+{
+    let needed = texts::report_lines(&mut out[..0], report);
+    if out.len() < needed {
+        return too_short(needed);
+    }
+    Written {
+        number: 0,
+        place: 0,
+        bytes: texts::report_lines(out, report),
+    }
+}
+
+// Writes the text of the codes.
+pub fn codes_text(number: usize, place: usize, codes: &[u8], out: &mut [u8]) -> Written
+    ensures written { λ r. ⌜ record { answer = r; out = now (out .exit) }
+        ≡ writtenOf (codesText number place (now (codes .entry))) (now (out .entry)) ⌝ }
+{
+    let needed = texts::codes_lines(&mut out[..0], number, place, codes);
+    if out.len() < needed {
+        return too_short(needed);
+    }
+    Written {
+        number: 0,
+        place: 0,
+        bytes: texts::codes_lines(out, number, place, codes),
+    }
+}
+
+// Writes the text of an explanation.
+pub fn explain_text(
+    number: usize,
+    place: usize,
+    accepted: bool,
+    records: usize,
+    listing: &[u8],
+    out: &mut [u8],
+) -> Written
+    ensures written { λ r. ⌜ record { answer = r; out = now (out .exit) }
+        ≡ writtenOf (explainText number place accepted records (now (listing .entry))) (now (out .entry)) ⌝ }
+{
+    let needed = texts::explain_lines(&mut out[..0], number, place, accepted, records, listing);
+    if out.len() < needed {
+        return too_short(needed);
+    }
+    Written {
+        number: 0,
+        place: 0,
+        bytes: texts::explain_lines(out, number, place, accepted, records, listing),
+    }
+}

@@ -1,8 +1,0 @@
--- `ropeclover::claims::finished_tables` meets its contract: advances after a start are steps from it, and steps from a
--- start finish with the smallest set. Assumes nothing.
-use Rattle.ropeclover.proofs.Finished.{finished-tables}
-use Rattle.ropeclover.proofs.claims.finished_tables.Statement.{statement}
-use Rattle.ropeclover.proofs.claims.finished_tables.Tie as tie
-
-pub finished-tables-spec : {M : Type 1} → statement M
-finished-tables-spec = tie.close (tie.spec (λ c. finished-tables))

@@ -1,7 +1,0 @@
--- `ropeclover::claims::turns_in_runs` meets its contract: call by call, reasons fit since a start. Assumes nothing.
-use Rattle.ropeclover.proofs.TurnsInRuns.{turns-in-runs}
-use Rattle.ropeclover.proofs.claims.turns_in_runs.Statement.{statement}
-use Rattle.ropeclover.proofs.claims.turns_in_runs.Tie as tie
-
-pub turns-in-runs-spec : {M : Type 1} → statement M
-turns-in-runs-spec = tie.close (tie.spec (λ c. turns-in-runs))

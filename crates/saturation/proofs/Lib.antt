@@ -1,9 +1,0 @@
-pub mod Tables
-pub mod Steps
-pub mod Growing
-pub mod Starts
-pub mod Reasons
-pub mod Offers
-pub mod Searches
-pub mod Indexes
-pub mod MachineChecks

@@ -1,0 +1,4 @@
+pub mod Placing
+pub mod Decimal
+pub mod PlacedDigits
+pub mod LineLengths

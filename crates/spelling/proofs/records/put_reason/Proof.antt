@@ -1,0 +1,27 @@
+-- `records::put_reason`: a given transition has its word, another its symbol and the rule's body. Assumes nothing.
+use borrow.Author.Needs.{needs}
+use mathlib.Core.List.{append-assoc}
+use native.Mathlib.Omega.{arith}
+use borrow.Author.Tests.{eq-eqb, ne-eqb}
+use Rattle.spelling.specs.Records.{reasonText}
+use Rattle.spelling.proofs.Placing.{then, within}
+use Rattle.spelling.proofs.records.put_reason.Statement.{statement}
+use Rattle.spelling.proofs.records.put_reason.Tie as tie
+
+returns : tie.Need-returns
+unfolding reasonText
+returns c =
+    rw (eq-eqb _ 71 (c .before .before .before .before .before .if1 .taken))
+    (within (c .before .before .put-word .ensures) (omega arith))
+
+returns-2 : tie.Need-returns-2
+unfolding reasonText
+returns-2 c =
+    rw (ne-eqb _ 71 (c .before .before .before .before .before .before .before .before .before .if1 .left))
+    (simp append-assoc
+    (then (c .before .before .before .before .before .before .put-number .ensures)
+    (c .before .before .put-body .ensures)))
+
+pub put-reason-spec : {M : Type 1} → statement M
+put-reason-spec = tie.close (tie.spec (λ c. search needs) (λ c κs. search needs) (λ c. search needs) returns
+    (λ c. search needs) (λ c κs. search needs) (λ c κs. search needs) (λ c. search needs) returns-2)

@@ -1,0 +1,30 @@
+-- `records::record_line`: the transition, then the reason, of the bytes that the definition reads. Assumes nothing.
+use native.Mathlib.Nat.{add-zero}
+use native.Mathlib.Omega.{arith}
+use Prim.Native.Nat.{ℕ, _*_}
+use mathlib.Core.List.{List}
+use lib.ListN.{getD}
+use Rattle.spelling.specs.Records.{transitionText, reasonText, byteOf, recordLine}
+use Rattle.spelling.specs.Inside.Placed.{Placed}
+use Rattle.spelling.proofs.Placing.{then}
+use Rattle.spelling.proofs.records.record_line.Statement.{statement}
+use Rattle.spelling.proofs.records.record_line.Tie as tie
+
+placed : (listing : List ℕ) (k : ℕ) {at : ℕ} {before : List ℕ} {r : ℕ} {after : List ℕ} {r′ : ℕ} {after′ : List ℕ}
+    → Placed (transitionText (getD listing (8 * k) 0) (byteOf listing k 1) (byteOf listing k 2)) 62 at before r after
+    → Placed (reasonText (byteOf listing k 1) (byteOf listing k 3) (byteOf listing k 4) (byteOf listing k 5)
+    (byteOf listing k 6)) 94 r after r′ after′
+    → Placed (recordLine listing k) 156 at before r′ after′
+unfolding recordLine
+placed listing k a b = rw add-zero (then a b)
+
+returns : tie.Need-returns
+returns c =
+    placed _ _ (c .before .before .before .before .before .before .before .before .before .put-transition .ensures)
+    (c .before .before .put-reason .ensures)
+
+pub record-line-spec : {M : Type 1} → statement M
+record-line-spec = tie.close (tie.spec (λ c. omega arith) (λ c. omega arith) (λ c. omega arith) (λ c. omega arith)
+    (λ c. omega arith) (λ c. omega arith) (λ c. omega arith) (λ c. omega arith) (λ c κs. omega arith)
+    (λ c. omega arith) (λ c. omega arith) (λ c. omega arith) (λ c. omega arith) (λ c. omega arith) (λ c. omega arith)
+    (λ c κs. omega arith) (λ c. omega arith) returns)

@@ -1,0 +1,5 @@
+pub mod Words
+pub mod Lines
+pub mod Records
+pub mod Theorems
+pub mod Inside

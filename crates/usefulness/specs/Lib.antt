@@ -1,0 +1,4 @@
+pub mod Sets
+pub mod Usefulness
+pub mod Inside
+pub mod Theorems
