@@ -250,18 +250,18 @@ void ropeclover_explain(const uint8_t *job, size_t job_len, uint8_t *table, size
 void ropeclover_verdicts(const uint8_t *job, size_t job_len, uint8_t *table, size_t table_len, uint8_t *codes, size_t codes_len,
                          uint64_t answer[4]);
 
-/* Writes a long job, the text, as an ordinary job, one record after the other as they were read. A body of none, one or two symbols is an E, a U or a
+/* Writes a long job as an ordinary job, one record after the other as they were read. A body of none, one or two symbols is an E, a U or a
  * P record. A longer one is split into P records, the head's first: A -> X1 T1, T1 -> X2 T2, and so on to the last two symbols. Every tail T has a
  * variable of its own, the lowest that is still free; terminals take none. A variable is free that no record names: named are heads, symbols of
  * bodies, the start symbol, and labels in T records. What each named variable derives in terminals is the same before and after, and the job written
  * is accepted by all other functions. The job past what is written is left as it was; ROPECLOVER_JOB_BYTES are always enough. answer[2]: the number
  * of records written.
  *
- * The checks in their order: 2 for a text over ROPECLOVER_LONG_JOB_BYTES, with its length; 1 for a length that is no multiple of 12, with the number
+ * The checks in their order: 2 for one over ROPECLOVER_LONG_JOB_BYTES, with its length; 1 for a length that is no multiple of 12, with the number
  * of whole records; 3, 4, 15 and 6 on each record, where 4 tells of the head and the body within the length, at most 8, and a second S or I is 6 in
  * any case; then again on each record 14, and for each record written for it 5, where it stands already among those written, and 7, where it is the
  * 257th rule of them; 8 and 9, with the number of records read; 2 for a job written of over ROPECLOVER_JOB_BYTES, with its length; 13. */
-void ropeclover_binarize(const uint8_t *text, size_t text_len, uint8_t *job, size_t job_len, uint64_t answer[3]);
+void ropeclover_binarize(const uint8_t *long_job, size_t long_job_len, uint8_t *job, size_t job_len, uint64_t answer[3]);
 
 /* Writes the clean copy of a job: an S record, then the rules all of whose symbols have the code ROPECLOVER_USEFUL, by their ranks. The useful
  * variables are numbered anew: the lowest is 0, the next 1, and so on; terminals stay as they are. If the language is empty, no symbol is useful,

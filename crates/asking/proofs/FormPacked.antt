@@ -2,10 +2,10 @@
 -- table has for these symbols. Assumes nothing.
 use Rattle.grammar.proofs.Basics.{_≡_, refl, _∙_, ap, true, false, Bool, _&&_, _||_, List, ℕ, _<_, _+_, _*_, _/_, _%_, arith}
 use Rattle.grammar.proofs.Basics.{eqb, ltb, getD, replicate, length, eqb-true, eqb-false, eq-eqb, cases, or-left, or-right}
-use Rattle.machine.specs.Table.{place, saysDone, statuses, doneIn, doneAt, isDone}
+use Rattle.machine.specs.Table.{tablePlace, saysDone, statuses, doneIn, doneAt, isDone}
 use Rattle.bit_machine.specs.BitTable.{bitAt, bitStatus, bitStatuses}
-use Rattle.byte_table.specs.Packing.{PackedRows}
-use Rattle.byte_table.proofs.Packed.{none-packed}
+use Rattle.packing.specs.Packing.{PackedRows}
+use Rattle.packing.proofs.Packed.{none-packed}
 use Rattle.forms.specs.Acceptance.{SymbolsFit}
 use Rattle.forms.specs.Inside.AcceptanceParts.{AgreeOn}
 
@@ -46,7 +46,7 @@ pub packing-ends : {table form bits : List ℕ} {i : ℕ} → Packing table form
 unfolding doneIn bitStatuses statuses
 packing-ends {table} {form} {bits} p end fit k q r l ql rl =
     let symbol : getD form k 0 < 64 = omega (arith, fit k l) in
-    let at = place q (getD form k 0) r in
+    let at = tablePlace q (getD form k 0) r in
     let row : at / 32 ≡ q * 64 + getD form k 0 = omega arith in
     says-done (bitAt bits 0 at) (bitAt bits 1 at) ∙ p .packed .done at (omega arith)
     ∙ ap (λ b. b && isDone (getD table at 0)) (ap (p .rows) row ∙ p .has k q (omega arith) ql)

@@ -88,7 +88,7 @@ pub fn fill_by_job(job: &[u8], bits: &[u8], form: &[u8], finish: &mut [u32; FINI
     ensures filled { λ q. ⌜ Filled (now (job .entry)) (now (bits .entry)) (now (form .entry)) (now (finish .exit)) q ⌝ }
 {
     fill_finish(bits, form, final_word(job), finish);
-    records::lookup::field_of(job, b'I') as usize
+    lookup::facts::field_of(job, b'I') as usize
 }
 
 // Whether a form is accepted by a job on a bit table.

@@ -1,20 +1,22 @@
 // Ask, on bytes and on bits, for every input.
 use crate::acceptance;
 use bits::BITS_BYTES;
+use checks::call;
 use forms::Asked;
 use job::Checked;
+use job::Level;
 ghost use mathlib.Core.Path.{_≡_};
 ghost use Prim.Native.Nat.{_≤_};
 ghost use lib.ListN.{length, replicate};
-ghost use Rattle.job.specs.Check.{jobCheck};
+ghost use Rattle.job.specs.Check.{jobCheck, shortBuffer, orElse};
 ghost use Rattle.machine.specs.Table.{tableSize, doneIn, doneAt};
 ghost use Rattle.bit_machine.specs.BitTable.{bitsSize, bitStatuses};
 ghost use Rattle.forms.specs.Acceptance.{SymbolsFit};
 ghost use Rattle.forms.specs.Operations.{formCheck, askChecks, askOf, askBitsOf};
-ghost use Rattle.forms.specs.Inside.AcceptanceParts.{AgreeOn, shortOf};
+ghost use Rattle.forms.specs.Inside.AcceptanceParts.{AgreeOn};
 
 // Refusals 12 and 11 of a form.
-pub fn form_check(form: &[u8]) -> Checked
+fn form_check(form: &[u8]) -> Checked
     ensures checked { λ c. ⌜ c ≡ formCheck (now (form .entry)) ⌝ }
 {
     if job::FORM_SYMBOLS < form.len() {
@@ -39,21 +41,19 @@ pub fn form_check(form: &[u8]) -> Checked
     }
 }
 
+// The check of a form after others.
+pub fn form_after(c: Checked, form: &[u8]) -> Checked
+    ensures checked { λ r. ⌜ r ≡ orElse c (formCheck (now (form .entry))) ⌝ }
+{
+    call::or_else(c, form_check(form))
+}
+
 // The checks of ask: a lent table of a length where another is needed, the job, the form.
 pub fn ask_check(length: usize, needed: usize, job: &[u8], form: &[u8]) -> Checked
-    ensures checked { λ c. ⌜ c ≡ askChecks jobCheck (shortOf length needed) (now (job .entry)) (now (form .entry)) ⌝ }
+    ensures checked { λ c. ⌜ c ≡ askChecks jobCheck (shortBuffer length needed 1) (now (job .entry)) (now (form .entry)) ⌝ }
 {
-    if length < needed {
-        return Checked {
-            number: 10,
-            place: 1,
-        };
-    }
-    let of_job = checks::check::check(job, checks::show::full_limits(), true);
-    if of_job.number != 0 {
-        return of_job;
-    }
-    form_check(form)
+    let short = call::short_buffer(length, needed, 1);
+    form_after(call::call_check(short, job, Level::Full, true), form)
 }
 
 // Packs the rows of a form's symbols into bits that are all 0.
@@ -66,7 +66,7 @@ fn pack_form(table: &[u8], form: &[u8], bits: &mut [u8])
 {
     let mut i = 0;
     while i < form.len() {
-        byte_table::pack::pack_symbol(table, bits, form[i] as usize);
+        packing::pack::pack_symbol(table, bits, form[i] as usize);
         i += 1;
     }
 }

@@ -8,5 +8,5 @@ ghost use Rattle.job.specs.Job.{statesOf};
 pub extern "C" fn ropeclover_benchmark_state_count(job: &[u8]) -> u64
     ensures states { λ n. ⌜ n ≡ statesOf (recordsOf (now (job .entry))) ⌝ }
 {
-    records::lookup::state_count(job) as u64
+    lookup::facts::state_count(job) as u64
 }

@@ -1,15 +1,15 @@
-// What each record of a text is written as. The free variables have zeros behind them, so that taking one needs no
+// What each record of a long job is written as. The free variables have zeros behind them, so that taking one needs no
 // test; whether too many were taken is tested after the record.
-use crate::Progress;
-use crate::dialect;
 use job::JobRecord;
 use job::SYMBOLS;
+use long_jobs::Progress;
+use long_records::dialect;
 ghost use mathlib.Core.Path.{_≡_};
 ghost use Prim.Native.Nat.{_<_, _≤_};
 ghost use lib.ListN.{length};
-ghost use Rattle.binarize.specs.Convert.{split, convert};
-ghost use Rattle.binarize.specs.Walk.{inTurn};
-ghost use Rattle.binarize.specs.Inside.Parts.{conversionOf, Room, Reached, shortRule};
+ghost use Rattle.long_jobs.specs.Convert.{split, convert};
+ghost use Rattle.long_jobs.specs.Walk.{nextFree};
+ghost use Rattle.long_jobs.specs.Inside.Parts.{conversionOf, Room, Reached, shortRule};
 
 // Splits a body of two or more: each pair rule but the last takes a variable for the rest.
 fn split_long(
@@ -22,7 +22,7 @@ fn split_long(
     requires long { ⌜ (2 ≤ length (now body)) × (length (now body) ≤ 8) ⌝ }
     requires room { ⌜ Room p (now written) ⌝ }
     ensures reached { λ r. ⌜ Reached p r (now (written .exit))
-        (split (inTurn (now (free .entry))) head (now (body .entry)) (conversionOf p (now (written .entry)))) ⌝ }
+        (split (nextFree (now (free .entry))) head (now (body .entry)) (conversionOf p (now (written .entry)))) ⌝ }
 {
     let last = body.len() - 2;
     let mut variable = head;
@@ -85,7 +85,7 @@ fn convert_long(
     requires few { ⌜ length (now body) ≤ 8 ⌝ }
     requires room { ⌜ Room p (now written) ⌝ }
     ensures reached { λ r. ⌜ Reached p r (now (written .exit))
-        (split (inTurn (now (free .entry))) head (now (body .entry)) (conversionOf p (now (written .entry)))) ⌝ }
+        (split (nextFree (now (free .entry))) head (now (body .entry)) (conversionOf p (now (written .entry)))) ⌝ }
 {
     if body.len() < 2 {
         records::format::put_record(written, p.count, short_rule(head, body));
@@ -97,12 +97,12 @@ fn convert_long(
     split_long(body, head, free, written, p)
 }
 
-// Writes what a record of a text is written as.
+// Writes what a record of a long job is written as.
 pub fn convert(bytes: &[u8], free: &[u8; SYMBOLS], written: &mut [u8], p: Progress) -> Progress
     requires long { ⌜ length (now bytes) ≡ 12 ⌝ }
     requires room { ⌜ Room p (now written) ⌝ }
     ensures reached { λ r. ⌜ Reached p r (now (written .exit))
-        (convert (inTurn (now (free .entry))) (now (bytes .entry)) (conversionOf p (now (written .entry)))) ⌝ }
+        (convert (nextFree (now (free .entry))) (now (bytes .entry)) (conversionOf p (now (written .entry)))) ⌝ }
 {
     if dialect::is_long(bytes) {
         return convert_long(dialect::body(bytes), bytes[1], free, written, p);

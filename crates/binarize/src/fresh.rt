@@ -1,20 +1,20 @@
 // The variables that no record names.
-use crate::RECORD_BYTES;
-use crate::dialect;
 use job::FieldClass;
 use job::JobRecord;
 use job::SYMBOLS;
+use long_records::RECORD_BYTES;
+use long_records::dialect;
 ghost use mathlib.Core.Path.{_≡_};
 ghost use mathlib.Core.Bool.{false};
 ghost use mathlib.Core.List.{[]};
 ghost use Prim.Native.Nat.{suc, _<_};
 ghost use lib.ListN.{length};
 ghost use Rattle.job.specs.Format.{fieldClasses, rowOf, classAt};
-ghost use Rattle.binarize.specs.Dialect.{textRecords};
-ghost use Rattle.binarize.specs.Check.{isUnknown};
-ghost use Rattle.binarize.specs.Fresh.{holdsSymbol, fieldNames, shortNames, holds, names, isNamed};
-ghost use Rattle.binarize.specs.Fresh.{unnamedBelow, freeIn};
-ghost use Rattle.binarize.specs.Inside.Parts.{AllFormed, InFront};
+ghost use Rattle.long_jobs.specs.Dialect.{longRecords};
+ghost use Rattle.long_jobs.specs.Check.{isUnknown};
+ghost use Rattle.long_jobs.specs.Fresh.{holdsSymbol, fieldNames, shortNames, holds, names, isNamed};
+ghost use Rattle.long_jobs.specs.Fresh.{unnamedBelow, freeIn};
+ghost use Rattle.long_jobs.specs.Inside.Parts.{AllFormed, InFront};
 
 // Whether fields of a class name symbols.
 fn holds_symbol(class: FieldClass) -> bool
@@ -83,14 +83,14 @@ fn names(bytes: &[u8], v: u8) -> bool
 }
 
 // Whether some record names v.
-fn is_named(text: &[u8], v: u8) -> bool
-    requires formed { ⌜ AllFormed (textRecords (now text)) ⌝ }
-    ensures says { λ ok. ⌜ ok ≡ isNamed (textRecords (now (text .entry))) v ⌝ }
+fn is_named(source: &[u8], v: u8) -> bool
+    requires formed { ⌜ AllFormed (longRecords (now source)) ⌝ }
+    ensures says { λ ok. ⌜ ok ≡ isNamed (longRecords (now (source .entry))) v ⌝ }
 {
-    let count = text.len() / RECORD_BYTES;
+    let count = source.len() / RECORD_BYTES;
     let mut i = 0;
     while i < count {
-        if names(dialect::record_at(text, i), v) {
+        if names(dialect::record_at(source, i), v) {
             return true;
         }
         i += 1;
@@ -99,13 +99,13 @@ fn is_named(text: &[u8], v: u8) -> bool
 }
 
 // Puts v behind the first n free variables unless some record names it. Returns how many there are then.
-fn add_free(text: &[u8], v: u8, free: &mut [u8; SYMBOLS], n: usize) -> usize
-    requires formed { ⌜ AllFormed (textRecords (now text)) ⌝ }
-    requires front { ⌜ (v < 32) × InFront (now free) n (unnamedBelow (textRecords (now text)) v) ⌝ }
+fn add_free(source: &[u8], v: u8, free: &mut [u8; SYMBOLS], n: usize) -> usize
+    requires formed { ⌜ AllFormed (longRecords (now source)) ⌝ }
+    requires front { ⌜ (v < 32) × InFront (now free) n (unnamedBelow (longRecords (now source)) v) ⌝ }
     ensures front { λ r. ⌜
-        InFront (now (free .exit)) r (unnamedBelow (textRecords (now (text .entry))) (suc v)) ⌝ }
+        InFront (now (free .exit)) r (unnamedBelow (longRecords (now (source .entry))) (suc v)) ⌝ }
 {
-    if is_named(text, v) {
+    if is_named(source, v) {
         return n;
     }
     free[n] = v;
@@ -113,15 +113,15 @@ fn add_free(text: &[u8], v: u8, free: &mut [u8; SYMBOLS], n: usize) -> usize
 }
 
 // Fills in the free variables, lowest first, and zeros past them. Returns how many there are.
-pub fn fill_free(text: &[u8], free: &mut [u8; SYMBOLS]) -> usize
-    requires formed { ⌜ AllFormed (textRecords (now text)) ⌝ }
+pub fn fill_free(source: &[u8], free: &mut [u8; SYMBOLS]) -> usize
+    requires formed { ⌜ AllFormed (longRecords (now source)) ⌝ }
     requires zeros { ⌜ InFront (now free) 0 [] ⌝ }
-    ensures front { λ r. ⌜ InFront (now (free .exit)) r (freeIn (textRecords (now (text .entry)))) ⌝ }
+    ensures front { λ r. ⌜ InFront (now (free .exit)) r (freeIn (longRecords (now (source .entry)))) ⌝ }
 {
     let mut n = 0;
     let mut v: u8 = 0;
     while v < 32 {
-        n = add_free(text, v, free, n);
+        n = add_free(source, v, free, n);
         v += 1;
     }
     n

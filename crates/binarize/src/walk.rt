@@ -1,30 +1,30 @@
-// The second walk over a text: it converts each record, and refuses by 14, 5 and 7.
-use crate::Progress;
-use crate::RECORD_BYTES;
-use crate::RuleCount;
-use crate::Step;
-use crate::WalkEnd;
+// The second walk over a long job: it converts each record, and refuses by 14, 5 and 7.
 use crate::convert;
-use crate::dialect;
 use crate::fresh;
 use job::JobRecord;
 use job::SYMBOLS;
+use long_jobs::Progress;
+use long_jobs::RuleCount;
+use long_jobs::WalkEnd;
+use long_jobs::WalkState;
+use long_records::RECORD_BYTES;
+use long_records::dialect;
 ghost use mathlib.Core.Path.{_≡_};
 ghost use Prim.Native.Nat.{_<_, _≤_, _%_};
 ghost use lib.ListN.{length, take};
 ghost use Rattle.job.specs.Format.{recordsOf};
 ghost use Rattle.job.specs.Check.{countRules};
-ghost use Rattle.binarize.specs.Dialect.{textRecords};
-ghost use Rattle.binarize.specs.Convert.{convert};
-ghost use Rattle.binarize.specs.Walk.{faultFrom, inTurn};
-ghost use Rattle.binarize.specs.Inside.Parts.{AllFormed, conversionOf, progressOf, Underway, Stepped};
-ghost use Rattle.binarize.specs.Inside.Parts.{faultOf, WalkedTo, writtenSize};
+ghost use Rattle.long_jobs.specs.Dialect.{longRecords};
+ghost use Rattle.long_jobs.specs.Convert.{convert};
+ghost use Rattle.long_jobs.specs.Walk.{faultFrom, nextFree};
+ghost use Rattle.long_jobs.specs.Inside.Parts.{AllFormed, conversionOf, progressOf, Underway, Stepped};
+ghost use Rattle.long_jobs.specs.Inside.Parts.{faultOf, WalkedTo, writtenSize};
 
 // 5 or 7 where the record stands already or is one rule too many, else 0.
 fn written_fault(seen: &[u8], rules: usize, r: JobRecord) -> usize
     ensures fault { λ n. ⌜ n ≡ faultOf (recordsOf (now (seen .entry))) rules r ⌝ }
 {
-    if records::lookup::has_record(seen, r) {
+    if lookup::facts::has_record(seen, r) {
         return 5;
     }
     if records::format::is_rule(r) {
@@ -66,12 +66,12 @@ fn convert_next(
     available: usize,
     written: &mut [u8],
     i: usize,
-    s: Step,
-) -> Step
+    s: WalkState,
+) -> WalkState
     requires within { ⌜ (length (now bytes) ≡ 12) × (i < 4096) ⌝ }
     requires underway { ⌜ Underway available i s (now written) ⌝ }
     ensures stepped { λ r. ⌜ Stepped available i (conversionOf (progressOf s) (now (written .entry)))
-        (convert (inTurn (now (free .entry))) (now (bytes .entry))
+        (convert (nextFree (now (free .entry))) (now (bytes .entry))
         (conversionOf (progressOf s) (now (written .entry)))) r (now (written .exit)) ⌝ }
     ensures size { λ _. ⌜ length (now (written .exit)) ≡ writtenSize ⌝ }
 {
@@ -81,7 +81,7 @@ fn convert_next(
     };
     let p = convert::convert(bytes, free, written, before);
     if available < p.taken {
-        return Step {
+        return WalkState {
             number: 14,
             taken: 0,
             count: 0,
@@ -90,7 +90,7 @@ fn convert_next(
     }
     let end = 4 * p.count;
     let c = check_from(&written[0..end], s.count, s.rules);
-    Step {
+    WalkState {
         number: c.number,
         taken: p.taken,
         count: p.count,
@@ -99,23 +99,23 @@ fn convert_next(
 }
 
 // The whole walk. What is written until a refusal stays in the buffer.
-pub fn walk(text: &[u8], written: &mut [u8]) -> WalkEnd
-    requires formed { ⌜ (length (now text) ≤ 49152) × AllFormed (textRecords (now text))
+pub fn walk(source: &[u8], written: &mut [u8]) -> WalkEnd
+    requires formed { ⌜ (length (now source) ≤ 49152) × AllFormed (longRecords (now source))
         × (length (now written) ≡ writtenSize) ⌝ }
-    ensures walked { λ w. ⌜ WalkedTo (textRecords (now (text .entry))) w (now (written .exit)) ⌝ }
+    ensures walked { λ w. ⌜ WalkedTo (longRecords (now (source .entry))) w (now (written .exit)) ⌝ }
 {
     let mut free = [0u8; SYMBOLS];
-    let available = fresh::fill_free(text, &mut free);
-    let mut s = Step {
+    let available = fresh::fill_free(source, &mut free);
+    let mut s = WalkState {
         number: 0,
         taken: 0,
         count: 0,
         rules: 0,
     };
-    let count = text.len() / RECORD_BYTES;
+    let count = source.len() / RECORD_BYTES;
     let mut i = 0;
     while i < count {
-        let bytes = dialect::record_at(text, i);
+        let bytes = dialect::record_at(source, i);
         s = convert_next(bytes, &free, available, written, i, s);
         if s.number != 0 {
             return WalkEnd {

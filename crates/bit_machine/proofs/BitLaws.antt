@@ -14,7 +14,7 @@ use lib.Count.{ones, trailingZeros, ones-step, under}
 use lib.Pow.{shr-shr, pow-pos, high}
 use Rattle.grammar.specs.Counting.{count, total, one-if}
 use Rattle.grammar.proofs.Counting.{count-cong}
-use Rattle.bit_machine.specs.BitTable.{bitOf, byteOf}
+use Rattle.bit_machine.specs.BitTable.{bitOf, byteOfBits}
 
 -- a rest by 2 is 0 or 1
 by-digit : (P : ℕ → Type 0) (n : ℕ) → P 0 → P 1 → P (n % 2)
@@ -258,14 +258,14 @@ module _ (test : ℕ → Bool) where
       ∙ ap test (let back : k ≡ j = omega arith in back))
 
 -- a byte and its bits
-pub byte-of-below : (test : ℕ → Bool) → byteOf test < 256
-unfolding byteOf written
+pub byte-of-below : (test : ℕ → Bool) → byteOfBits test < 256
+unfolding byteOfBits written
 byte-of-below test = written-below test 8
 
-pub bit-of-byte : (test : ℕ → Bool) (j : ℕ) → j < 8 → bitOf (byteOf test) j ≡ test j
-unfolding byteOf written
+pub bit-of-byte : (test : ℕ → Bool) (j : ℕ) → j < 8 → bitOf (byteOfBits test) j ≡ test j
+unfolding byteOfBits written
 bit-of-byte test j l = written-bit test 8 j l
 
-pub byte-of-bits : (n : ℕ) (test : ℕ → Bool) → n < 256 → ((j : ℕ) → j < 8 → test j ≡ bitOf n j) → byteOf test ≡ n
+pub byte-of-bits : (n : ℕ) (test : ℕ → Bool) → n < 256 → ((j : ℕ) → j < 8 → test j ≡ bitOf n j) → byteOfBits test ≡ n
 byte-of-bits n test l e =
-    same-bits 8 (byteOf test) n (byte-of-below test) l (λ j m. bit-of-byte test j m ∙ e j m)
+    same-bits 8 (byteOfBits test) n (byte-of-below test) l (λ j m. bit-of-byte test j m ∙ e j m)

@@ -3,7 +3,7 @@
 use Rattle.grammar.proofs.Basics.{_≡_, refl, _∙_, sym, ap, ap₂, true, false, false≢true, Bool, _&&_, _||_, cond}
 use Rattle.grammar.proofs.Basics.{List, ℕ, _<_, _≤_, _+_, arith, eqb, leb, length, eqb-true, and-left}
 use Rattle.grammar.specs.Rule.{Rule}
-use Rattle.machine.specs.Table.{Lent, lentOf, tableSize, place, fromState, symbolAt, toState, Status, Statuses}
+use Rattle.machine.specs.Table.{Lent, lentOf, tableSize, tablePlace, fromState, symbolAt, toState, Status, Statuses}
 use Rattle.machine.specs.Table.{saysAbsent, saysPending, saysDone, isAbsentAt, isDoneAt, statuses}
 use Rattle.machine.specs.Step.{lowest, isFinished, comesIn, statusAfter, taking}
 use Rattle.machine.specs.Advance.{steps}
@@ -13,7 +13,7 @@ use Rattle.machine.proofs.Steps.Taking.{taking-length, taking-says}
 use Rattle.machine.proofs.Steps.StepLaws.{step-taking, steps-keep, steps-done-kept, steps-add}
 use Rattle.bit_machine.specs.BitTable.{bitsSize, pendingHalf, doneHalf, bitAt, bitStatus, bitStatuses, hasBoth}
 use Rattle.machine.specs.Table.{statusByte}
-use Rattle.bit_machine.specs.BitTable.{saying, bytesOf}
+use Rattle.bit_machine.specs.BitTable.{saying, tableOfBits}
 use Rattle.bit_machine.specs.Machine.{asBytes, stepsBits}
 use Rattle.bit_machine.specs.Theorems.Steps.{StepInBits}
 use Rattle.bit_machine.proofs.ByteTables.{bytes-length, byte-at, bytes-say}
@@ -26,7 +26,7 @@ small-byte Status.absent = omega arith
 small-byte Status.pending = omega arith
 small-byte Status.done = omega arith
 
-pub bytes-plain : (bits : List ℕ) → Plain (bytesOf bits)
+pub bytes-plain : (bits : List ℕ) → Plain (tableOfBits bits)
 bytes-plain bits =
     record { size = bytes-length bits; small = λ p l. rw (byte-at bits p l) (small-byte (bitStatuses bits p)) }
 
@@ -54,7 +54,7 @@ both-says-done true false e = absurd (false≢true e)
 both-says-done false done e = absurd (false≢true e)
 
 both-done : (bits : List ℕ) (p : ℕ) → p < tableSize → hasBoth bits p ≡ true →
-    isDoneAt (statuses (bytesOf bits)) p ≡ true
+    isDoneAt (statuses (tableOfBits bits)) p ≡ true
 unfolding hasBoth bitStatuses
 both-done bits p l e =
     ap saysDone (bytes-say bits p l) ∙ both-says-done (bitAt bits pendingHalf p) (bitAt bits doneHalf p) e
@@ -128,7 +128,7 @@ done-after false false false false absent = refl
 module _ (ρs : List Rule) (m : Lent) (long : bitsSize ≤ length (m .table))
     (unfinished : isFinished (statuses (asBytes m .table)) ≡ false) where
   abbrev v : Statuses
-  v = statuses (bytesOf (m .table))
+  v = statuses (tableOfBits (m .table))
 
   -- what the step says
   says-after : (p : ℕ) → p < tableSize → statuses (steps ρs 1 (asBytes m) .table) p ≡ statusAfter ρs v (lowest v) p
@@ -147,7 +147,7 @@ module _ (ρs : List Rule) (m : Lent) (long : bitsSize ≤ length (m .table))
 
     comes-absent : comes ≡ true → saysAbsent (bitStatuses (m .table) p) ≡ true
     comes-absent e =
-        let back : place (fromState p) (symbolAt p) (toState p) ≡ p = omega arith in
+        let back : tablePlace (fromState p) (symbolAt p) (toState p) ≡ p = omega arith in
         sym (ap saysAbsent (bytes-say (m .table) p l)) ∙ ap (isAbsentAt v) (sym back) ∙ and-left _ _ e
 
     after-now : statuses (steps ρs 1 (asBytes m) .table) p

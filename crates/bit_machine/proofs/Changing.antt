@@ -5,7 +5,7 @@ use Rattle.grammar.proofs.Basics.{ℕ, _<_, arith, eqb, length, getD, set, drop
 use Rattle.grammar.proofs.Basics.{cases, and-false-right}
 use Rattle.machine.specs.Table.{tableSize, Status, saysAbsent, saysPending, saysDone, isAbsent, isPending, isDone}
 use Rattle.machine.specs.Table.{statusByte}
-use Rattle.bit_machine.specs.BitTable.{bitsSize, bitAt, bitStatus, bitStatuses, hasBoth, bytesOf}
+use Rattle.bit_machine.specs.BitTable.{bitsSize, bitAt, bitStatus, bitStatuses, hasBoth, tableOfBits}
 use Rattle.bit_machine.specs.Inside.Change.{BitSet, Kept}
 use Rattle.bit_machine.proofs.ByteTables.{byte-done, byte-pending, byte-absent, bytes-set}
 
@@ -29,27 +29,27 @@ says-pending false true = refl
 says-pending false false = refl
 
 module _ (bits : List ℕ) (p : ℕ) (h : p < tableSize) where
-  pub done-bit : isDone (getD (bytesOf bits) p 0) ≡ bitAt bits 1 p
+  pub done-bit : isDone (getD (tableOfBits bits) p 0) ≡ bitAt bits 1 p
   unfolding bitStatuses
   done-bit = byte-done bits p h ∙ says-done (bitAt bits 0 p) (bitAt bits 1 p)
 
-  pub there-bits : not (isAbsent (getD (bytesOf bits) p 0)) ≡ (bitAt bits 0 p || bitAt bits 1 p)
+  pub there-bits : not (isAbsent (getD (tableOfBits bits) p 0)) ≡ (bitAt bits 0 p || bitAt bits 1 p)
   unfolding bitStatuses
   there-bits = ap not (byte-absent bits p h) ∙ says-there (bitAt bits 0 p) (bitAt bits 1 p)
 
-  pub pending-bits : isPending (getD (bytesOf bits) p 0) ≡ (bitAt bits 0 p && not (bitAt bits 1 p))
+  pub pending-bits : isPending (getD (tableOfBits bits) p 0) ≡ (bitAt bits 0 p && not (bitAt bits 1 p))
   unfolding bitStatuses
   pending-bits = byte-pending bits p h ∙ says-pending (bitAt bits 0 p) (bitAt bits 1 p)
 
-  pub not-absent-done : bitAt bits 1 p ≡ true → isAbsent (getD (bytesOf bits) p 0) ≡ false
+  pub not-absent-done : bitAt bits 1 p ≡ true → isAbsent (getD (tableOfBits bits) p 0) ≡ false
   unfolding bitStatuses
   not-absent-done e = byte-absent bits p h ∙ rw e
 
-  pub not-absent-pending : bitAt bits 0 p ≡ true → isAbsent (getD (bytesOf bits) p 0) ≡ false
+  pub not-absent-pending : bitAt bits 0 p ≡ true → isAbsent (getD (tableOfBits bits) p 0) ≡ false
   unfolding bitStatuses
   not-absent-pending e = byte-absent bits p h ∙ cases (bitAt bits 1 p) (λ d. rw d) (λ d. rw (d, e))
 
-  pub absent : bitAt bits 0 p ≡ false → bitAt bits 1 p ≡ false → isAbsent (getD (bytesOf bits) p 0) ≡ true
+  pub absent : bitAt bits 0 p ≡ false → bitAt bits 1 p ≡ false → isAbsent (getD (tableOfBits bits) p 0) ≡ true
   unfolding bitStatuses
   absent e f = byte-absent bits p h ∙ rw (e, f)
 
@@ -71,7 +71,7 @@ module _ {bits bits' : List ℕ} {half p : ℕ} {value : Bool} (s : BitSet bits 
 module _ (bits bits' : List ℕ) (p : ℕ) (l : p < tableSize) (elsewhere : Elsewhere bits bits' p)
     (long : length bits' ≡ length bits) (rest : drop bitsSize bits' ≡ drop bitsSize bits) where
   place-says : (s : Status) → bitStatus (bitAt bits' 0 p) (bitAt bits' 1 p) ≡ s →
-      bytesOf bits' ≡ set (bytesOf bits) p (statusByte s)
+      tableOfBits bits' ≡ set (tableOfBits bits) p (statusByte s)
   unfolding bitStatuses
   place-says s here =
       bytes-set bits bits' p s l here
@@ -90,8 +90,8 @@ module _ (bits bits' : List ℕ) (p : ℕ) (l : p < tableSize) (elsewhere : Else
       }
 
 -- a place that is not done becomes pending
-pub pending-written : (bits bits' : List ℕ) (p : ℕ) → p < tableSize → isDone (getD (bytesOf bits) p 0) ≡ false →
-    BitSet bits bits' 0 p true → (bytesOf bits' ≡ set (bytesOf bits) p 1) × Kept bits bits'
+pub pending-written : (bits bits' : List ℕ) (p : ℕ) → p < tableSize → isDone (getD (tableOfBits bits) p 0) ≡ false →
+    BitSet bits bits' 0 p true → (tableOfBits bits' ≡ set (tableOfBits bits) p 1) × Kept bits bits'
 pending-written bits bits' p l e s =
     let done : bitAt bits 1 p ≡ false = sym (done-bit bits p l) ∙ e in
     let done' : bitAt bits' 1 p ≡ false = bit-beside s 1 (omega arith) l (λ z. omega arith) ∙ done in
@@ -108,9 +108,9 @@ pending-written bits bits' p l e s =
     )
 
 -- a pending place becomes done, in two writes
-pub done-written : (bits bits' bits'' : List ℕ) (p : ℕ) → p < tableSize → isPending (getD (bytesOf bits) p 0) ≡ true →
+pub done-written : (bits bits' bits'' : List ℕ) (p : ℕ) → p < tableSize → isPending (getD (tableOfBits bits) p 0) ≡ true →
     BitSet bits bits' 0 p false → BitSet bits' bits'' 1 p true →
-    (bytesOf bits'' ≡ set (bytesOf bits) p 2) × Kept bits bits''
+    (tableOfBits bits'' ≡ set (tableOfBits bits) p 2) × Kept bits bits''
 done-written bits bits' bits'' p l e s t =
     let done : bitAt bits 1 p ≡ false = not-done (bitAt bits 0 p) (bitAt bits 1 p) (sym (pending-bits bits p l) ∙ e) in
     let pending : bitAt bits'' 0 p ≡ false = bit-beside t 0 (omega arith) l (λ z. omega arith) ∙ bit-here s

@@ -7,13 +7,13 @@ use Rattle.machine.specs.Table.{tableSize, Status, byteStatus, saysPending, say
 use Rattle.machine.proofs.Tables.Each.{length-each, getD-each-0}
 use Rattle.bit_machine.specs.BitTable.{bitsSize, halfSize, pendingHalf, doneHalf, bitOf, bitAt, bitStatus, bitStatuses}
 use Rattle.machine.specs.Table.{statusByte}
-use Rattle.bit_machine.specs.BitTable.{hasBoth, byteOf, writeBits, saying, bytesOf}
+use Rattle.bit_machine.specs.BitTable.{hasBoth, byteOfBits, writeBits, saying, tableOfBits}
 use Rattle.bit_machine.proofs.BitLaws.{byte-of-below, bit-of-byte, byte-of-bits}
 use Rattle.bit_machine.proofs.ByteTables.{bytes-length, byte-at}
 
 -- the byte that is written at an index of the halves
 abbrev byteWritten : (ℕ → ℕ → Bool) → ℕ → ℕ
-byteWritten test i = byteOf (λ j. test (i / halfSize) (i % halfSize * 8 + j))
+byteWritten test i = byteOfBits (λ j. test (i / halfSize) (i % halfSize * 8 + j))
 
 module _ (test : ℕ → ℕ → Bool) (bits : List ℕ) where
   pub rewritten-length : length (writeBits test bits) ≡ length bits
@@ -113,7 +113,7 @@ pub record Plain (t : List ℕ) : Type 0 where
 
 module _ (both : ℕ → Bool) (t bits : List ℕ) (long : bitsSize ≤ length bits)
     (done : (p : ℕ) → p < tableSize → both p ≡ true → isDoneAt (statuses t) p ≡ true) where
-  pub bytes-again : Plain t → bytesOf (writeBits (saying both (statuses t)) bits) ≡ t
+  pub bytes-again : Plain t → tableOfBits (writeBits (saying both (statuses t)) bits) ≡ t
   unfolding statuses
   bytes-again plain =
       ext-getD 0 _ _ (bytes-length _ ∙ sym (plain .size))

@@ -6,10 +6,10 @@ use Rattle.grammar.proofs.Basics.{lt-ltb, le-ltb, cases, true-and-false, not-tr
 use Rattle.grammar.proofs.Basics.{and-false-right, or-false}
 use Prim.Native.Nat.{_^_}
 use lib.Bits.{bitAnd, bitOr, and-lt}
-use Rattle.machine.specs.Table.{saysDone, isDone, doneIn, place}
+use Rattle.machine.specs.Table.{saysDone, isDone, doneIn, tablePlace}
 use Rattle.grammar.specs.Counting.{some}
 use Rattle.grammar.proofs.Some.{some-found, some-passes, some-cong}
-use Rattle.bit_machine.specs.BitTable.{bitOf, bitStatuses, bytesOf}
+use Rattle.bit_machine.specs.BitTable.{bitOf, bitStatuses, tableOfBits}
 use Rattle.bit_machine.proofs.BitLaws.{bit-and, bit-zero, no-bits}
 use Rattle.bit_machine.proofs.BitBytes.{bit-after-set}
 use Rattle.bit_machine.proofs.ByteTables.{byte-done}
@@ -79,11 +79,11 @@ no-bit k n e =
 -- a row of a bit table and a word of states: whether they have a common bit is whether a done transition leads to one
 -- of the states
 module _ (bits : List ℕ) (q symbol row targets : ℕ) (below : q < 32) (symbols : symbol < 64)
-    (says : (j : ℕ) → j < 32 → bitOf row j ≡ isDone (getD (bytesOf bits) ((q * 64 + symbol) * 32 + j) 0)) where
+    (says : (j : ℕ) → j < 32 → bitOf row j ≡ isDone (getD (tableOfBits bits) ((q * 64 + symbol) * 32 + j) 0)) where
   pub done-bit : (r : ℕ) → r < 32 → bitOf row r ≡ doneIn (bitStatuses bits) q symbol r
   unfolding doneIn
   done-bit r l =
-      let at : (q * 64 + symbol) * 32 + r ≡ place q symbol r = omega arith in
+      let at : (q * 64 + symbol) * 32 + r ≡ tablePlace q symbol r = omega arith in
       says r l ∙ byte-done bits ((q * 64 + symbol) * 32 + r) (omega arith)
       ∙ ap (λ (p : ℕ). saysDone (bitStatuses bits p)) at
 

@@ -6,7 +6,7 @@ use Rattle.grammar.proofs.Basics.{eqb-true, eqb-false}
 use Rattle.machine.specs.Table.{tableSize, saysPending, saysDone, statuses}
 use Rattle.machine.proofs.Tables.Each.{each-is, rest-at}
 use Rattle.bit_machine.specs.BitTable.{bitsSize, halfSize, pendingHalf, doneHalf, bitOf, bitAt, bitStatus, bitStatuses}
-use Rattle.bit_machine.specs.BitTable.{hasBoth, writeBits, saying, bytesOf}
+use Rattle.bit_machine.specs.BitTable.{hasBoth, writeBits, saying, tableOfBits}
 use Rattle.bit_machine.proofs.BitLaws.{byte-of-bits}
 use Rattle.bit_machine.proofs.ByteTables.{bytes-say}
 
@@ -26,7 +26,7 @@ done-again false false = refl
 module _ (both : ℕ → Bool) (bits : List ℕ) (same : (p : ℕ) → p < tableSize → hasBoth bits p ≡ both p) where
   -- what is written in a half is the bit that is there
   bit-said : (half p : ℕ) → half < 2 → p < tableSize →
-      saying both (statuses (bytesOf bits)) half p ≡ bitAt bits half p
+      saying both (statuses (tableOfBits bits)) half p ≡ bitAt bits half p
   unfolding bitStatuses hasBoth
   bit-said half p h l =
       cases (eqb half pendingHalf)
@@ -41,7 +41,7 @@ module _ (both : ℕ → Bool) (bits : List ℕ) (same : (p : ℕ) → p < table
 
   -- a byte of the halves
   byte-said : (i j : ℕ) → i < bitsSize → j < 8 →
-      saying both (statuses (bytesOf bits)) (i / halfSize) (i % halfSize * 8 + j) ≡ bitOf (getD bits i 0) j
+      saying both (statuses (tableOfBits bits)) (i / halfSize) (i % halfSize * 8 + j) ≡ bitOf (getD bits i 0) j
   unfolding bitAt
   byte-said i j h l =
       let at : i / halfSize * halfSize + (i % halfSize * 8 + j) / 8 ≡ i = omega arith in
@@ -50,7 +50,7 @@ module _ (both : ℕ → Bool) (bits : List ℕ) (same : (p : ℕ) → p < table
 
 pub written : (both : ℕ → Bool) (bits bits' t : List ℕ) → length bits' ≡ length bits →
     drop bitsSize bits' ≡ drop bitsSize bits → ((i : ℕ) → i < length bits' → getD bits' i 0 < 256) →
-    bytesOf bits' ≡ t → ((p : ℕ) → p < tableSize → hasBoth bits' p ≡ both p) →
+    tableOfBits bits' ≡ t → ((p : ℕ) → p < tableSize → hasBoth bits' p ≡ both p) →
     bits' ≡ writeBits (saying both (statuses t)) bits
 unfolding writeBits
 written both bits bits' t long rest below says same =

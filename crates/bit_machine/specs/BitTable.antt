@@ -41,13 +41,13 @@ unfoldable pub hasBoth : List ℕ → ℕ → Bool
 hasBoth bits p = bitAt bits pendingHalf p && bitAt bits doneHalf p
 
 -- the byte whose bits a test says
-unfoldable pub byteOf : (ℕ → Bool) → ℕ
-byteOf test = total (λ j. one-if (test j) * 2 ^ j) 8
+unfoldable pub byteOfBits : (ℕ → Bool) → ℕ
+byteOfBits test = total (λ j. one-if (test j) * 2 ^ j) 8
 
 -- a table whose bits a test of half and place says; what is lent past the two halves stays as it is
 unfoldable pub writeBits : (ℕ → ℕ → Bool) → List ℕ → List ℕ
 writeBits test bits =
-    each (λ i old. cond (leb bitsSize i) old (byteOf (λ j. test (i / halfSize) (i % halfSize * 8 + j)))) 0 bits
+    each (λ i old. cond (leb bitsSize i) old (byteOfBits (λ j. test (i / halfSize) (i % halfSize * 8 + j)))) 0 bits
 
 -- the two bits of each place where a table is to say v; those of some places have the pending bit beside the done bit
 abbrev pub saying : (ℕ → Bool) → Statuses → ℕ → ℕ → Bool
@@ -58,5 +58,5 @@ unfoldable pub doneBits : List ℕ → ℕ
 doneBits bits = count (bitAt bits doneHalf) tableSize
 
 -- the byte table that says what a bit table says
-unfoldable pub bytesOf : List ℕ → List ℕ
-bytesOf bits = each (λ p old. statusByte (bitStatuses bits p)) 0 (replicate tableSize 0)
+unfoldable pub tableOfBits : List ℕ → List ℕ
+tableOfBits bits = each (λ p old. statusByte (bitStatuses bits p)) 0 (replicate tableSize 0)

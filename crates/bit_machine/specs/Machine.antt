@@ -8,11 +8,11 @@ use Rattle.job.specs.Job.{Job}
 use Rattle.machine.specs.Table.{Lent, lentOf, statuses}
 use Rattle.machine.specs.Start.{started}
 use Rattle.machine.specs.Advance.{steps}
-use Rattle.bit_machine.specs.BitTable.{hasBoth, writeBits, saying, bytesOf}
+use Rattle.bit_machine.specs.BitTable.{hasBoth, writeBits, saying, tableOfBits}
 
 -- a bit table and reasons, with the byte table that says the same
 abbrev pub asBytes : Lent → Lent
-asBytes m = lentOf (bytesOf (m .table)) (m .reasons)
+asBytes m = lentOf (tableOfBits (m .table)) (m .reasons)
 
 -- what a byte table says, written in bits; some places have both
 abbrev pub inBits : (ℕ → Bool) → List ℕ → Lent → Lent

@@ -3,10 +3,10 @@
 use Prim.Native.Nat.{ℕ}
 use mathlib.Core.Bool.{true, cond}
 use mathlib.Core.List.{List}
-use lib.Dec.{eqb, ltb}
+use lib.Dec.{eqb}
 use lib.ListN.{length}
 use Rattle.job.specs.declared.Checked.{Checked}
-use Rattle.job.specs.Check.{Checks, jobCheck, shortReasons, refused, accepted, orElse}
+use Rattle.job.specs.Check.{Checks, jobCheck, shortBuffer, shortReasons, orElse}
 use Rattle.job.specs.Job.{jobOf}
 use Rattle.machine.specs.Table.{Lent, statuses}
 use Rattle.machine.specs.Step.{isFinished}
@@ -18,7 +18,7 @@ use Rattle.bit_machine.specs.Machine.{asBytes, startedBits, stepsBits}
 
 -- Refused calls, 10: a bit table that is too short, with the table's place
 abbrev pub shortBits : List ℕ → Checked
-shortBits bits = cond (ltb (length bits) bitsSize) (refused 10 1) accepted
+shortBits bits = shortBuffer (length bits) bitsSize 1
 
 -- the checks of start and advance: the buffers, then the job, with an initial state; by the checks of a job
 unfoldable pub bitsCheckBy : Checks → List ℕ → Lent → Checked

@@ -1,3 +1,2 @@
 // Start and advance on a lent bit table.
-pub mod begin;
 pub mod operations;

@@ -8,7 +8,7 @@ ghost use Prim.Native.Nat.{ℕ, _+_, _*_, _%_, _<_, _≤_};
 ghost use lib.ListN.{length, getD, set};
 ghost use Rattle.machine.specs.Table.{lentOf, tableSize, reasonsSize, isAbsent, isPending, isDone};
 ghost use Rattle.machine.specs.Inside.Offers.{VariablePlace, reasonPlaceOf, offerAt, addOffer};
-ghost use Rattle.bit_machine.specs.BitTable.{bitsSize, bitOf, bitAt, bytesOf};
+ghost use Rattle.bit_machine.specs.BitTable.{bitsSize, bitOf, bitAt, tableOfBits};
 ghost use Rattle.bit_machine.specs.Inside.Change.{RowWritten, BitSet, Kept};
 
 // Whether a place has its bit in a half.
@@ -79,7 +79,7 @@ fn clear_bit(bits: &mut [u8], half: usize, place: usize)
 // Of a row the places that are done.
 pub fn done_row(bits: &[u8], k: usize) -> u32
     requires within { ⌜ (k < 2048) × (bitsSize ≤ length (now bits)) ⌝ }
-    ensures done { λ w. ⌜ ((j : ℕ) → j < 32 → bitOf w j ≡ isDone (getD (bytesOf (now (bits .entry)))
+    ensures done { λ w. ⌜ ((j : ℕ) → j < 32 → bitOf w j ≡ isDone (getD (tableOfBits (now (bits .entry)))
         (k * 32 + j) 0)) ⌝ }
 {
     row(bits, DONE_HALF, k)
@@ -89,7 +89,7 @@ pub fn done_row(bits: &[u8], k: usize) -> u32
 pub fn there_row(bits: &[u8], k: usize) -> u32
     requires within { ⌜ (k < 2048) × (bitsSize ≤ length (now bits)) ⌝ }
     ensures there { λ w. ⌜ ((j : ℕ) → j < 32
-        → bitOf w j ≡ not (isAbsent (getD (bytesOf (now (bits .entry))) (k * 32 + j) 0))) ⌝ }
+        → bitOf w j ≡ not (isAbsent (getD (tableOfBits (now (bits .entry))) (k * 32 + j) 0))) ⌝ }
 {
     row(bits, PENDING_HALF, k) | row(bits, DONE_HALF, k)
 }
@@ -98,7 +98,7 @@ pub fn there_row(bits: &[u8], k: usize) -> u32
 pub fn pending_row(bits: &[u8], k: usize) -> u32
     requires within { ⌜ (k < 2048) × (bitsSize ≤ length (now bits)) ⌝ }
     ensures pending { λ w. ⌜ ((j : ℕ) → j < 32
-        → bitOf w j ≡ isPending (getD (bytesOf (now (bits .entry))) (k * 32 + j) 0)) ⌝ }
+        → bitOf w j ≡ isPending (getD (tableOfBits (now (bits .entry))) (k * 32 + j) 0)) ⌝ }
 {
     row(bits, PENDING_HALF, k) & !row(bits, DONE_HALF, k)
 }
@@ -106,8 +106,8 @@ pub fn pending_row(bits: &[u8], k: usize) -> u32
 // A place that is not done becomes pending.
 pub fn make_pending(bits: &mut [u8], place: usize)
     requires within { ⌜ (place < tableSize) × (bitsSize ≤ length (now bits)) ⌝ }
-    requires notDone { ⌜ isDone (getD (bytesOf (now bits)) place 0) ≡ false ⌝ }
-    ensures written { λ _. ⌜ bytesOf (now (bits .exit)) ≡ set (bytesOf (now (bits .entry))) place 1 ⌝ }
+    requires notDone { ⌜ isDone (getD (tableOfBits (now bits)) place 0) ≡ false ⌝ }
+    ensures written { λ _. ⌜ tableOfBits (now (bits .exit)) ≡ set (tableOfBits (now (bits .entry))) place 1 ⌝ }
     ensures kept { λ _. ⌜ Kept (now (bits .entry)) (now (bits .exit)) ⌝ }
 {
     set_bit(bits, PENDING_HALF, place);
@@ -116,8 +116,8 @@ pub fn make_pending(bits: &mut [u8], place: usize)
 // A pending place becomes done: its pending bit is cleared.
 pub fn make_done(bits: &mut [u8], place: usize)
     requires within { ⌜ (place < tableSize) × (bitsSize ≤ length (now bits)) ⌝ }
-    requires pending { ⌜ isPending (getD (bytesOf (now bits)) place 0) ≡ true ⌝ }
-    ensures written { λ _. ⌜ bytesOf (now (bits .exit)) ≡ set (bytesOf (now (bits .entry))) place 2 ⌝ }
+    requires pending { ⌜ isPending (getD (tableOfBits (now bits)) place 0) ≡ true ⌝ }
+    ensures written { λ _. ⌜ tableOfBits (now (bits .exit)) ≡ set (tableOfBits (now (bits .entry))) place 2 ⌝ }
     ensures kept { λ _. ⌜ Kept (now (bits .entry)) (now (bits .exit)) ⌝ }
 {
     clear_bit(bits, PENDING_HALF, place);
@@ -135,9 +135,9 @@ pub fn offer(
     requires long { ⌜ (bitsSize ≤ length (now bits)) × (reasonsSize ≤ length (now reasons)) ⌝ }
     requires variable { ⌜ VariablePlace place ⌝ }
     requires beside { ⌜ «reason_place» ≡ reasonPlaceOf place ⌝ }
-    ensures absent { λ r. ⌜ r ≡ isAbsent (getD (bytesOf (now (bits .entry))) place 0) ⌝ }
-    ensures written { λ r. ⌜ lentOf (bytesOf (now (bits .exit))) (now (reasons .exit))
-        ≡ addOffer (offerAt place entry) (lentOf (bytesOf (now (bits .entry))) (now (reasons .entry))) ⌝ }
+    ensures absent { λ r. ⌜ r ≡ isAbsent (getD (tableOfBits (now (bits .entry))) place 0) ⌝ }
+    ensures written { λ r. ⌜ lentOf (tableOfBits (now (bits .exit))) (now (reasons .exit))
+        ≡ addOffer (offerAt place entry) (lentOf (tableOfBits (now (bits .entry))) (now (reasons .entry))) ⌝ }
     ensures kept { λ _. ⌜ Kept (now (bits .entry)) (now (bits .exit)) ⌝ }
 {
     if has_bit(bits, DONE_HALF, place) {

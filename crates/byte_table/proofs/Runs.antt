@@ -4,7 +4,7 @@ use Rattle.grammar.proofs.Basics.{_≡_, refl, _∙_, sym, ap, ap₂, true, fal
 use Rattle.grammar.proofs.Basics.{leb, length, getD, drop, replicate, leb-true, leb-false, lt-leb, le-ltb, cases}
 use Rattle.grammar.specs.Rule.{Rule}
 use Rattle.job.specs.Accepted.{Accepted}
-use Rattle.job.specs.Clear.{cleared}
+use Rattle.job.specs.Written.{cleared}
 use Rattle.job.specs.Job.{Job, jobOf}
 use Rattle.job.proofs.AcceptedFacts.{in-range}
 use Rattle.job.proofs.Clearing.{cleared-length, cleared-front, cleared-rest}
@@ -25,8 +25,8 @@ use Rattle.bit_machine.specs.Machine.{asBytes, startedBits, stepsBits}
 use Rattle.bit_machine.specs.Alike.{Alike}
 use Rattle.bit_machine.proofs.Rewriting.{rewritten-length}
 use Rattle.bit_machine.proofs.Alongside.{started-byte, starts-alike, same-tables, steps-alike}
-use Rattle.byte_table.specs.Merging.{Merges}
-use Rattle.byte_table.proofs.Packed.{none-packed}
+use Rattle.packing.specs.Merging.{Merges}
+use Rattle.packing.proofs.Packed.{none-packed}
 
 -- tables rewritten to say the same are equal
 rewritten-cong : (v v' : Statuses) (t : List ℕ) → ((p : ℕ) → p < tableSize → v p ≡ v' p) →

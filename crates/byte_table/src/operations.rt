@@ -1,7 +1,8 @@
 // Start and advance, for every input.
 use crate::run;
+use checks::call;
 use job::Checked;
-use job::REASON_NUMBERS;
+use job::Level;
 use job::TABLE_BYTES;
 use machine::Advanced;
 use machine::Started;
@@ -14,19 +15,8 @@ pub fn machine_check(job: &[u8], table: &[u8], reasons: &[u32]) -> Checked
     ensures checked { λ c. ⌜ c
         ≡ machineCheck (now (job .entry)) (lentOf (now (table .entry)) (now (reasons .entry))) ⌝ }
 {
-    if table.len() < TABLE_BYTES {
-        return Checked {
-            number: 10,
-            place: 1,
-        };
-    }
-    if reasons.len() < REASON_NUMBERS {
-        return Checked {
-            number: 10,
-            place: 2,
-        };
-    }
-    checks::check::check(job, checks::show::full_limits(), true)
+    let short = call::short_lent(table.len(), TABLE_BYTES, reasons.len());
+    call::call_check(short, job, Level::Full, true)
 }
 
 // Writes the table and the reasons that a job starts from, and answers its number of states.
@@ -59,11 +49,11 @@ pub fn advance(job: &[u8], table: &mut [u8], reasons: &mut [u32], n: u64) -> Adv
         ≡ advanceOf (now (job .entry)) (lentOf (now (table .entry)) (now (reasons .entry))) n
         ⌝ }
 {
-    let c = machine_check(job, table, reasons);
-    if c.number != 0 {
+    let checked = machine_check(job, table, reasons);
+    if checked.number != 0 {
         return Advanced {
-            number: c.number,
-            place: c.place,
+            number: checked.number,
+            place: checked.place,
             finished: false,
             steps: 0,
             meetings: 0,

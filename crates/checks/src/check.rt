@@ -1,4 +1,4 @@
-// The checks of a job, refusals 1 to 9, and that of room for what is written, 13.
+// The checks of a job, refusals 1 to 9.
 use job::Checked;
 use job::JOB_BYTES;
 use job::JobRecord;
@@ -14,8 +14,9 @@ ghost use Prim.Native.Nat.{_+_, _<_, _≤_, _%_};
 ghost use lib.Dec.{eqb};
 ghost use lib.ListN.{length, getD, set};
 ghost use Rattle.job.specs.Format.{fieldClasses, recordsOf};
-ghost use Rattle.job.specs.Check.{checkOf, firstFault, missing, orElse, refused, recordPlace, roomCheck};
-ghost use Rattle.job.specs.Inside.Walk.{formFault, orderFault, counted, missingBy, markOf};
+ghost use Rattle.job.specs.Records.{refused, orElse, firstFault, lengthCheck};
+ghost use Rattle.job.specs.Check.{jobFormat, checkOf, missing, recordPlace};
+ghost use Rattle.job.specs.Inside.Walk.{formFault, isSecondBy, orderFault, counted, missingBy, markOf};
 
 // 3 or 4 where the record itself is at fault, else 0.
 pub fn form_fault(r: JobRecord) -> usize
@@ -30,21 +31,25 @@ pub fn form_fault(r: JobRecord) -> usize
     0
 }
 
+// Whether a record is a second S or I after those that were counted.
+pub fn is_second(seen: Tally, r: JobRecord) -> bool
+    ensures says { λ ok. ⌜ ok ≡ isSecondBy seen r ⌝ }
+{
+    if r.kind == b'S' {
+        return 0 < seen.starts;
+    }
+    if r.kind == b'I' {
+        return 0 < seen.initials;
+    }
+    false
+}
+
 // 6 or 7 where the record is one too many after those that were counted, else 0.
 pub fn order_fault(limits: Limits, seen: Tally, r: JobRecord) -> usize
     ensures fault { λ n. ⌜ n ≡ orderFault limits seen r ⌝ }
 {
-    if r.kind == b'S' {
-        if 0 < seen.starts {
-            return 6;
-        }
-        return 0;
-    }
-    if r.kind == b'I' {
-        if 0 < seen.initials {
-            return 6;
-        }
-        return 0;
+    if is_second(seen, r) {
+        return 6;
     }
     if format::is_rule(r) {
         if limits.rules <= seen.rules {
@@ -67,7 +72,7 @@ pub fn count_in(seen: Tally, r: JobRecord) -> Tally
 }
 
 // Refusals 8 and 9, by what was counted in all records.
-fn missing_kind(seen: Tally, needed: bool, count: usize) -> Checked
+pub fn missing_kind(seen: Tally, needed: bool, count: usize) -> Checked
     ensures missing { λ r. ⌜ r ≡ missingBy needed seen count ⌝ }
 {
     if seen.starts == 0 {
@@ -133,7 +138,7 @@ fn set_mark(marks: &mut [u8], r: JobRecord)
 // before it; at a match the search stops at once, out of both walks.
 pub fn check_records(job: &[u8], limits: Limits, needed: bool) -> Checked
     requires whole { ⌜ (length (now job) ≤ 16384) × (length (now job) % 4 ≡ 0) ⌝ }
-    ensures checked { λ r. ⌜ r ≡ orElse (firstFault fieldClasses limits [] (recordsOf (now (job .entry))))
+    ensures checked { λ r. ⌜ r ≡ orElse (firstFault (jobFormat fieldClasses limits) [] (recordsOf (now (job .entry))))
         (missing needed (recordsOf (now (job .entry)))) ⌝ }
 {
     let count = job.len() / 4;
@@ -171,39 +176,36 @@ pub fn check_records(job: &[u8], limits: Limits, needed: bool) -> Checked
     missing_kind(seen, needed, count)
 }
 
-// All checks of a job's bytes. `needed`: whether an I record is needed.
-pub fn check(job: &[u8], limits: Limits, needed: bool) -> Checked
-    ensures checked { λ r. ⌜ r ≡ checkOf fieldClasses limits needed (now (job .entry)) ⌝ }
+// Refusals 2 and 1 of n bytes, by the most bytes and the bytes of a record.
+pub fn length_check(n: usize, most: usize, size: usize) -> Checked
+    requires some { ⌜ 0 < size ⌝ }
+    ensures checked { λ c. ⌜ c ≡ lengthCheck most size n ⌝ }
 {
-    let n = job.len();
-    if JOB_BYTES < n {
+    if most < n {
         return Checked {
             number: 2,
             place: n,
         };
     }
-    if n % 4 != 0 {
+    if n % size != 0 {
         return Checked {
             number: 1,
-            place: n / 4,
-        };
-    }
-    check_records(job, limits, needed)
-}
-
-// 13 where a buffer has no room for so many records.
-pub fn room_check(records: usize, room: usize) -> Checked
-    requires few { ⌜ records ≤ 65536 ⌝ }
-    ensures checked { λ c. ⌜ c ≡ roomCheck records room ⌝ }
-{
-    if room < 4 * records {
-        return Checked {
-            number: 13,
-            place: records,
+            place: n / size,
         };
     }
     Checked {
         number: 0,
         place: 0,
     }
+}
+
+// All checks of a job's bytes. `needed`: whether an I record is needed.
+pub fn check(job: &[u8], limits: Limits, needed: bool) -> Checked
+    ensures checked { λ r. ⌜ r ≡ checkOf fieldClasses limits needed (now (job .entry)) ⌝ }
+{
+    let c = length_check(job.len(), JOB_BYTES, 4);
+    if c.number != 0 {
+        return c;
+    }
+    check_records(job, limits, needed)
 }

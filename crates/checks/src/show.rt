@@ -1,20 +1,11 @@
 // Showing the refused record.
-use crate::check;
+use crate::call;
 use job::Checked;
-use job::Limits;
+use job::Level;
 use job::Part;
-use job::RULES;
 ghost use mathlib.Core.Path.{_≡_};
 ghost use Prim.Native.Nat.{_<_, _≤_};
-ghost use Rattle.job.specs.Check.{fullLimits};
 ghost use Rattle.job.specs.Show.{partOf, shownPart, shownOf};
-
-// 256 rules.
-pub fn full_limits() -> Limits
-    ensures limits { λ r. ⌜ r ≡ fullLimits ⌝ }
-{
-    Limits { rules: RULES }
-}
 
 // The part of a job that a check's answer names: the record that is refused by 3 to 7, else the empty part.
 pub fn part_of(c: Checked) -> Part
@@ -43,7 +34,11 @@ pub fn part_of(c: Checked) -> Part
 pub fn shown_part(job: &[u8]) -> Part
     ensures part { λ p. ⌜ p ≡ shownPart (now (job .entry)) ⌝ }
 {
-    part_of(check::check(job, full_limits(), false))
+    let short = Checked {
+        number: 0,
+        place: 0,
+    };
+    part_of(call::call_check(short, job, Level::Full, false))
 }
 
 // The bytes of that part.

@@ -1,34 +1,34 @@
 -- A bit table and a byte table that say the same: a call on each is refused alike, or answers the same and leaves such
 -- tables, and so do all that follow a start. The bytes of the bit table are brought beside the byte table, on which
 -- the machine takes the same steps. Assumes nothing.
-use Rattle.grammar.proofs.Basics.{_≡_, refl, _∙_, sym, List, _∷_, [], ℕ, arith, eqb}
-use Rattle.grammar.proofs.Basics.{eqb-true, eqb-false, cases}
+use Rattle.grammar.proofs.Basics.{_≡_, refl, List, _∷_, [], ℕ, arith, eqb}
+use Rattle.grammar.proofs.Basics.{eqb-true, eqb-false, le-ltb, cases}
 use Rattle.job.specs.Job.{jobOf}
 use Rattle.job.proofs.AcceptedFacts.{in-range}
-use Rattle.machine.specs.Table.{Lent}
-use Rattle.machine.specs.Operations.{machineCheck, startOf, startBy, advanceOf, advanceBy}
-use Rattle.machine.proofs.MachineChecks.{machine-passed, long-enough}
+use Rattle.machine.specs.Table.{Lent, tableSize}
+use Rattle.machine.specs.Operations.{machineCheck, machineCheckBy, startOf, startBy, advanceOf, advanceBy}
+use Rattle.machine.proofs.MachineChecks.{machine-passed}
 use Rattle.machine.proofs.Starts.StartLaws.{started-keeps-rest}
 use Rattle.machine.proofs.Steps.StepLaws.{steps-keep-rest}
 use Rattle.machine.proofs.Steps.SameSteps.{same-finished, steps-same, steps-made-same, meetings-made-same}
 use Rattle.forms.specs.Operations.{askOf, askBitsOf}
 use Rattle.forms.proofs.AskedAlike.{asked-alike}
+use Rattle.bit_machine.specs.BitTable.{bitsSize}
 use Rattle.bit_machine.specs.Machine.{asBytes, startedBits}
-use Rattle.bit_machine.specs.Operations.{bitsCheck, startBitsOf, startBitsBy, advanceBitsOf, advanceBitsBy}
+use Rattle.bit_machine.specs.Operations.{bitsCheck, bitsCheckBy, startBitsOf, startBitsBy, advanceBitsOf, advanceBitsBy}
 use Rattle.bit_machine.specs.Alike.{Alike}
 use Rattle.bit_machine.proofs.Alongside.{starts-alike, same-tables, steps-alike}
 use Rattle.claims.specs.BitsAlike.{BothLong, StartAlike, AdvanceAlike, RunAlike, advancedBits}
 use Rattle.claims.specs.BitsAlike.{advanced}
 use Rattle.bit_machine.proofs.Rewriting.{rewritten-length}
 use Rattle.bit_machine.proofs.BitSteps.{steps-bits-length}
-use Rattle.bit_machine.proofs.RunChecks.{bits-long-enough}
 
 module _ (job : List ℕ) (bits table : Lent) (long : BothLong bits table) where
   -- the checks of both pass on to those of the job
   same-check : bitsCheck job bits ≡ machineCheck job table
+  unfolding bitsCheckBy machineCheckBy
   same-check =
-      sym (bits-long-enough job bits (long .bitsLong) (rw (long .sameReasons) (long .reasonsLong)))
-      ∙ long-enough job table (long .tableLong) (long .reasonsLong)
+      rw (le-ltb _ bitsSize (long .bitsLong), le-ltb _ tableSize (long .tableLong), long .sameReasons)
 
   pub start-alike : StartAlike job bits table
   unfolding startBitsBy startBy

@@ -1,8 +1,8 @@
 -- The check of a call depends on the lengths of what is lent and on the check of the job, so it is the same in both
 -- runs and all along a run. Assumes nothing.
-use Rattle.grammar.proofs.Basics.{_≡_, true, false, Bool, cond, List, ℕ, _≤_, arith, eqb, ltb, length, cases}
+use Rattle.grammar.proofs.Basics.{_≡_, true, false, Bool, List, ℕ, _≤_, arith, eqb, ltb, length, cases}
 use Rattle.job.specs.declared.Checked.{Checked}
-use Rattle.job.specs.Check.{jobCheck, shortTable, shortReasons, refused, accepted, orElse}
+use Rattle.job.specs.Check.{jobCheck, shortBuffer, shortTable, shortReasons, orElse}
 use Rattle.job.specs.Accepted.{Accepted}
 use Rattle.job.proofs.JobChecks.{check-number}
 use Rattle.machine.specs.Table.{Lent, tableSize, reasonsSize}
@@ -36,9 +36,8 @@ call-check-alike a b e m n long (same-verdicts codes other same) = rw (long .tab
 either-number : (k : ℕ) (c d : Checked) → c .number ≤ k → d .number ≤ k → orElse c d .number ≤ k
 either-number k c d a b = cases (eqb (c .number) 0) (λ t. rw t b) (λ t. rw t a)
 
-short-number : (short : Bool) (place : ℕ) → cond short (refused 10 place) accepted .number ≤ 12
-short-number true place = omega arith
-short-number false place = omega arith
+short-number : (long needed place : ℕ) → shortBuffer long needed place .number ≤ 12
+short-number long needed place = cases (ltb long needed) (λ t. rw t (omega arith)) (λ t. rw t (omega arith))
 
 pub explain-number :
     (job : List ℕ) (m : Lent) (form : List ℕ) → Accepted false job → explainCheck job m form .number ≤ 12
@@ -48,6 +47,6 @@ explain-number job m form ok =
     either-number 12 (orElse short (jobCheck true job)) (formCheck form)
     (either-number 12 short (jobCheck true job)
     (either-number 12 (shortTable (m .table)) (shortReasons (m .reasons))
-    (short-number (ltb (length (m .table)) tableSize) 1) (short-number (ltb (length (m .reasons)) reasonsSize) 2))
+    (short-number (length (m .table)) tableSize 1) (short-number (length (m .reasons)) reasonsSize 2))
     (omega (arith, check-number true ok)))
     (form-number form)

@@ -11,7 +11,8 @@ use Rattle.grammar.proofs.CertificateCycle.{certifiedCycle, certifiedRank}
 use Rattle.grammar.proofs.Certificate.{closureCertified, symbolsCertified}
 use Rattle.grammar.proofs.CertificateVerdicts.{useful}
 use Rattle.job.specs.Format.{recordsOf, badField}
-use Rattle.job.specs.Check.{checkOf, jobCheck, firstFault, fault, recordPlace, countKind, countRules, missing}
+use Rattle.job.specs.Records.{firstFault, lengthCheck, bytesCheck}
+use Rattle.job.specs.Check.{checkOf, jobCheck, fault, recordPlace, countKind, countRules, missing}
 use Rattle.job.specs.Job.{Job, jobOf, jobOfRecords, sortedRules, insert, ruleOf, fieldOf, statesOf}
 use Rattle.usefulness.specs.Sets.{anyIn, anyRule}
 use Rattle.verdicts.specs.Verdicts.{isNamed}
@@ -67,7 +68,8 @@ factCertified needed J c (Fact.code X n) =
 
 -- the checks of the job pass
 unfoldable pub passes : Bool → List ℕ → Bool
-unfolding checkOf firstFault recordsOf fault recordPlace badField format.has countKind countRules missing
+unfolding checkOf bytesCheck lengthCheck firstFault recordsOf fault recordPlace badField format.has countKind
+    countRules missing
 passes needed job = eqb (jobCheck needed job .number) 0 && eqb (jobCheck needed job .place) 0
 
 -- the transitions are the smallest set of the job

@@ -14,7 +14,7 @@ use Rattle.claims.specs.Alike.{SameCalls, SameLengths, SameFirst, TraceA
 use Rattle.claims.specs.Counts.{Counted, idle}
 
 -- what holds of the two runs of the calls cs on the job a and ds on the job b
-pub record RunsAlike (a b : List ℕ) (m n : Lent) (cs ds : List Call) (known : Bool) : Type 0 where
+pub record RunsAgree (a b : List ℕ) (m n : Lent) (cs ds : List Call) (known : Bool) : Type 0 where
   pub alike : TraceAlike known (runOf a m cs) (runOf b n ds)
   pub keptFirst : Unwritten m cs (runOf a m cs)
   pub keptSecond : Unwritten n ds (runOf b n ds)
@@ -32,4 +32,4 @@ unfoldable pub TwoRuns : Type 0
 TwoRuns =
     (a b : List ℕ) → jobCheck false a ≡ accepted → SameRecords a b → (m n : Lent) → SameLengths m n →
     (cs ds : List Call) → SameCalls cs ds → (known : Bool) →
-    (known ≡ true → SameFirst m n) → RunsAlike a b m n cs ds known
+    (known ≡ true → SameFirst m n) → RunsAgree a b m n cs ds known

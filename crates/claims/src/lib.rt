@@ -1,4 +1,22 @@
-// The demands as claims: each is carried by a function with an empty body.
+// The last page: the operations, and what holds of them. Each claim is carried by a function with an empty body.
+//
+// Whatever its input, an operation gives just what its definition says, the answer and every byte of what is lent
+// (crates operations and ropeclover; none asks for anything):
+//
+//     start, advance            startOf, advanceOf              machine/specs/Operations
+//     start, advance on bits    startBitsOf, advanceBitsOf      bit_machine/specs/Operations
+//     done count                doneCountOf                     bit_machine/specs/Operations
+//     ask, on bytes and bits    askOf, askBitsOf                forms/specs/Operations
+//     explain                   explainOf                       forms/specs/Operations
+//     verdicts                  verdictsOf                      verdicts/specs/Operation
+//     showing                   shownOf                         job/specs/Show
+//     binarize                  binarizeOf                      long_jobs/specs/Operation
+//     clean                     cleanOf                         copies/specs/Operation
+//
+// What holds of single operations is carried beside the definitions, in theorems.rt of these crates: of the checks and
+// ranks in job, of steps, counts, reasons and turns in machine, of bits in bit_machine, of acceptance and listings in
+// forms, of codes, empty and growing in verdicts (over the papers' theorems in grammar), of what is written in
+// long_jobs and copies. What holds of whole lists of calls is carried here.
 ghost use Rattle.claims.specs.BitsAlike.{CallsAlike, RunsAlike};
 ghost use Rattle.claims.specs.Filed.{FiledGrammars};
 ghost use Rattle.claims.specs.FinishedTables.{FinishedTables};

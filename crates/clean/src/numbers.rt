@@ -4,7 +4,7 @@ ghost use mathlib.Core.Path.{_≡_};
 ghost use mathlib.Core.Bool.{cond};
 ghost use lib.Dec.{ltb};
 ghost use Rattle.usefulness.specs.Inside.Flags.{flagged, Bits};
-ghost use Rattle.clean.specs.Inside.Parts.{Numbers};
+ghost use Rattle.copies.specs.Inside.Parts.{Numbers};
 
 // The new number of a symbol with so many useful variables below it.
 fn number_of(symbol: u8, below: u8) -> u8

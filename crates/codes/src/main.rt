@@ -5,15 +5,15 @@
 const INPUT_BYTES: usize = 16385;
 
 // The most bytes that the text of the codes has.
-const TEXT_BYTES: usize = 448;
+const OUTPUT_BYTES: usize = 448;
 
 // Prints the codes of a job.
 fn codes(job: &[u8]) {
     let mut table = [0u8; job::TABLE_BYTES];
     let mut codes = [0u8; job::CODE_BYTES];
-    let judged = verdicts::operation::verdicts(job, &mut table, &mut codes);
-    let mut out = [0u8; TEXT_BYTES];
-    let written = printing::operations::codes_text(judged.number, judged.place, &codes, &mut out);
+    let judged = judging::operation::verdicts(job, &mut table, &mut codes);
+    let mut out = [0u8; OUTPUT_BYTES];
+    let written = printing::operations::codes_output(judged.number, judged.place, &codes, &mut out);
     console::write_output(&out, written.bytes);
 }
 

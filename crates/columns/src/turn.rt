@@ -7,7 +7,7 @@ ghost use mathlib.Core.Path.{_≡_};
 ghost use mathlib.Core.Bool.{true};
 ghost use Prim.Native.Nat.{ℕ, _+_, _*_, _/_, _%_, _<_, _≤_};
 ghost use lib.ListN.{length, getD};
-ghost use Rattle.bit_machine.specs.BitTable.{bitsSize, bytesOf};
+ghost use Rattle.bit_machine.specs.BitTable.{bitsSize, tableOfBits};
 ghost use Rattle.bit_machine.specs.Inside.Index.{columnOf, RowIs, Written, Blocks, Exchanged, TurnedBy, Turned};
 ghost use Rattle.bit_machine.specs.Inside.Index.{ColumnsTurned};
 
@@ -65,7 +65,7 @@ fn turn_squares(words: &mut [u32])
 // A row of the table: the places that are there, or those that are done.
 fn column_row(bits: &[u8], there: bool, k: usize) -> u32
     requires within { ⌜ (k < 2048) × (bitsSize ≤ length (now bits)) ⌝ }
-    ensures row { λ w. ⌜ RowIs (columnOf there (bytesOf (now (bits .entry)))) k w ⌝ }
+    ensures row { λ w. ⌜ RowIs (columnOf there (tableOfBits (now (bits .entry)))) k w ⌝ }
 {
     if there {
         return table::there_row(bits, k);
@@ -77,7 +77,7 @@ fn column_row(bits: &[u8], there: bool, k: usize) -> u32
 fn copy_rows(bits: &[u8], there: bool, k: usize, words: &mut [u32], at: usize)
     requires within { ⌜ (k + 4 ≤ 2048) × (bitsSize ≤ length (now bits)) × (at + 4 ≤ length (now words)) ⌝ }
     ensures copied { λ _. ⌜ Written (now (words .entry)) (now (words .exit)) at 4
-        (λ i w. RowIs (columnOf there (bytesOf (now (bits .entry)))) (k + i) w) ⌝ }
+        (λ i w. RowIs (columnOf there (tableOfBits (now (bits .entry)))) (k + i) w) ⌝ }
 {
     let first = column_row(bits, there, k);
     let second = column_row(bits, there, k + 1);
@@ -93,7 +93,7 @@ fn copy_rows(bits: &[u8], there: bool, k: usize, words: &mut [u32], at: usize)
 fn copy_squares(bits: &[u8], there: bool, c: usize, words: &mut [u32])
     requires within { ⌜ (c < 8) × (bitsSize ≤ length (now bits)) × (length (now words) ≡ 256) ⌝ }
     ensures copied { λ _. ⌜ Written (now (words .entry)) (now (words .exit)) 0 256
-        (λ i w. RowIs (columnOf there (bytesOf (now (bits .entry)))) (i / 8 * 64 + c * 8 + i % 8) w) ⌝ }
+        (λ i w. RowIs (columnOf there (tableOfBits (now (bits .entry)))) (i / 8 * 64 + c * 8 + i % 8) w) ⌝ }
 {
     let mut q = 0;
     while q < 32 {
@@ -152,7 +152,7 @@ fn turn_group(bits: &[u8], there: bool, c: usize, words: &mut [u32], index: &mut
     requires zeros { ⌜ ((i : ℕ) → i < 2048 → c * 256 ≤ i → getD (now index) (base + i) 0 ≡ 0) ⌝ }
     ensures sized { λ _. ⌜ length (now (words .exit)) ≡ 256 ⌝ }
     ensures turned { λ _. ⌜ ColumnsTurned (now (index .entry)) (now (index .exit)) base c (c + 1)
-        (columnOf there (bytesOf (now (bits .entry)))) ⌝ }
+        (columnOf there (tableOfBits (now (bits .entry)))) ⌝ }
 {
     copy_squares(bits, there, c, words);
     if is_blank(words) {
@@ -169,7 +169,7 @@ pub fn turn_columns(bits: &[u8], there: bool, words: &mut [u32], index: &mut [u3
     requires zeros { ⌜ ((i : ℕ) → i < 2048 → getD (now index) (base + i) 0 ≡ 0) ⌝ }
     ensures sized { λ _. ⌜ length (now (words .exit)) ≡ 256 ⌝ }
     ensures turned { λ _. ⌜ ColumnsTurned (now (index .entry)) (now (index .exit)) base 0 8
-        (columnOf there (bytesOf (now (bits .entry)))) ⌝ }
+        (columnOf there (tableOfBits (now (bits .entry)))) ⌝ }
 {
     let mut c = 0;
     while c < 8 {

@@ -13,7 +13,7 @@ const INPUT_BYTES: usize = 16385;
 const LISTING_BYTES: usize = 524288;
 
 // The most bytes that the text of an explanation has.
-const TEXT_BYTES: usize = 2424874;
+const OUTPUT_BYTES: usize = 2424874;
 
 // A word of the command line as a symbol: whether it is a number from 0 to 255, and which.
 struct Word {
@@ -103,7 +103,7 @@ fn print_explanation(job: &[u8], form: &[u8], out: &mut [u8]) {
     let mut reasons = [0u32; job::REASON_NUMBERS];
     let mut listing = [0u8; LISTING_BYTES];
     let explained = explaining::explain(job, &mut table, &mut reasons, form, &mut listing);
-    let written = printing::operations::explain_text(
+    let written = printing::operations::explain_output(
         explained.number,
         explained.place,
         explained.accepted,
@@ -116,7 +116,7 @@ fn print_explanation(job: &[u8], form: &[u8], out: &mut [u8]) {
 
 // Prints the explanation of a form.
 fn explain(job: &[u8], form: &[u8]) {
-    let mut out = [0u8; TEXT_BYTES];
+    let mut out = [0u8; OUTPUT_BYTES];
     print_explanation(job, form, &mut out);
 }
 

@@ -22,10 +22,7 @@ fn explain_check(job: &[u8], table: &[u8], reasons: &[u32], form: &[u8]) -> Chec
         ≡ explainCheck (now (job .entry)) (lentOf (now (table .entry)) (now (reasons .entry))) (now (form .entry)) ⌝ }
 {
     let c = byte_table::operations::machine_check(job, table, reasons);
-    if c.number != 0 {
-        return c;
-    }
-    ask::form_check(form)
+    ask::form_after(c, form)
 }
 
 // Lists why a form is accepted on a finished table. The first pass only counts, so that a listing that does not fit
@@ -46,7 +43,7 @@ fn list_accepted(
         (now (listing .entry)) ⌝ }
 {
     let mut keys = [0u32; job::RULES];
-    let count = records::rules::sorted_rules(job, &mut keys);
+    let count = lookup::sorting::sorted_rules(job, &mut keys);
     let rules = &keys[0..count];
     let n = form.len();
     let needed = listing::list_all(table, reasons, rules, places, n, listing, false);

@@ -3,7 +3,7 @@
 use Rattle.grammar.proofs.Basics.{_≡_, refl, ap, ap₂, true, Bool, _&&_, List, _∷_, [], ℕ, _<_, suc, suc-le-suc, arith}
 use Rattle.grammar.proofs.Some.{some-cong}
 use Rattle.grammar.proofs.Meetings.{AgreeBelow}
-use Rattle.machine.specs.Table.{place, statuses, doneIn, doneAt}
+use Rattle.machine.specs.Table.{tablePlace, statuses, doneIn, doneAt}
 use Rattle.machine.proofs.Steps.FirstPart.{done-agree}
 use Rattle.machine.proofs.Tables.FirstFrom.{first-cong}
 use Rattle.bit_machine.specs.BitTable.{bitStatuses}
@@ -49,5 +49,5 @@ module _ (final final' : ℕ → Bool) (ends : (q : ℕ) → q < 32 → final q 
   route-agree (X ∷ w) agree q l can =
       let (below, now, later) = next-is final done X w q can in
       rw (← next-agree X w agree q l)
-      (ap (λ rest. place q X (nextState final done X w q) ∷ rest)
+      (ap (λ rest. tablePlace q X (nextState final done X w q) ∷ rest)
       (route-agree w (λ i s t h. agree (suc i) s t (suc-le-suc h)) _ below later))

@@ -3,16 +3,16 @@
 -- first did. Assumes nothing.
 use Rattle.grammar.proofs.Basics.{_≡_, refl, _∙_, ap, true, false, Bool, List, map, ℕ, _<_, _≤_, _-_, _*_, arith}
 use Rattle.grammar.proofs.Basics.{length, take, length-take, lt-ltb, le-ltb}
-use native.Mathlib.Nat.{sub-zero}
 use Rattle.job.specs.Format.{recordsOf}
 use Rattle.job.specs.Job.{sortKey, sortedRules, jobOf}
-use Rattle.job.proofs.Keys.{rules-of-keys}
+use Rattle.job.proofs.Keys.{rules-lent}
 use Rattle.machine.specs.Table.{Lent, lentOf, tableSize, doneAt, each}
 use Rattle.forms.specs.Acceptance.{route}
 use Rattle.forms.specs.Listing.{Listed, unmarked}
 use Rattle.forms.specs.Operations.{acceptsOn, explainLeaves, listedFor, explainListed}
 use Rattle.forms.specs.Inside.AcceptanceParts.{FormFits}
-use Rattle.forms.specs.Inside.ListingParts.{rulesOf, CanListAll, RoomFor, ListingPass, passOf, passOver}
+use Rattle.forms.specs.Inside.ListingParts.{CanListAll, RoomFor, ListingPass, passOf, passOver}
+use Rattle.job.specs.Inside.Keys.{rulesOfKeys}
 use Rattle.forms.specs.Inside.ExplainParts.{Explainable, OnRoute}
 use Rattle.forms.specs.Theorems.ListingTheorems.{Listable}
 use Rattle.forms.proofs.AskAnswers.{initial-state}
@@ -37,26 +37,26 @@ route-listable {job} {form} {m} able fits accepts =
     }
 
 -- what the two passes rest on
-pub record Ready (job t rs form places keys : List ℕ) : Type 0 where
+pub record ReadyToList (job t rs form places keys : List ℕ) : Type 0 where
   pub able : Explainable job (lentOf t rs)
   pub form-fits : FormFits form
   pub on : OnRoute job t form places
-  pub rules : rulesOf keys ≡ jobOf job .rules
+  pub rules : rulesOfKeys keys ≡ jobOf job .rules
 
 -- the sorted keys of an accepted job hold its rules
 pub ready : {job t rs form places : List ℕ} (keys : List ℕ) {n : ℕ} →
     (Explainable job (lentOf t rs) × FormFits form) × OnRoute job t form places →
     (n ≡ length (sortedRules (recordsOf job))) × (take n keys ≡ map sortKey (sortedRules (recordsOf job))) →
-    Ready job t rs form places (take (n - 0) keys)
+    ReadyToList job t rs form places (take (n - 0) keys)
 ready keys {n} (both, on) (count, sorted) =
     record {
       able = both .0;
       form-fits = both .1;
       on = on;
-      rules = rw (sub-zero n) (rules-of-keys (both .0 .job-accepted) keys n count sorted);
+      rules = rules-lent (both .0 .job-accepted) keys n count sorted;
     }
 
-module _ {job t rs form places keys : List ℕ} (r : Ready job t rs form places keys) where
+module _ {job t rs form places keys : List ℕ} (r : ReadyToList job t rs form places keys) where
   listable : Listable (jobOf job .rules) rs t (routeOf job t form)
   listable = route-listable (r .able) (r .form-fits) (r .on .accepts)
 
@@ -75,7 +75,7 @@ module _ {job t rs form places keys : List ℕ} (r : Ready job t rs form places 
 
   -- what a pass over the route asks
   pub may-pass : (write : Bool) (t' out' : List ℕ) → t' ≡ t → RoomFor write (length (listed .places)) out' →
-      CanListAll write (rulesOf keys) rs t' (take (length form) places) out'
+      CanListAll write (rulesOfKeys keys) rs t' (take (length form) places) out'
   unfolding listedFor
   may-pass write t' out' e room =
       rw (e, r .on .along, r .rules) (record { listable = r .able .listable; done = listable .done; room = room })
@@ -83,7 +83,7 @@ module _ {job t rs form places keys : List ℕ} (r : Ready job t rs form places 
   -- the first pass
   module _
       (out : List ℕ) {a : ListingPass}
-      (first : a ≡ passOver false (rulesOf keys) rs t (take (length form) places) out)
+      (first : a ≡ passOver false (rulesOfKeys keys) rs t (take (length form) places) out)
     where
       counted : a ≡ passOf (listed .table) (length (listed .places)) out
       unfolding passOver listedFor
@@ -107,10 +107,10 @@ module _ {job t rs form places keys : List ℕ} (r : Ready job t rs form places 
         unfolding listedFor
         table-again = back ∙ rw counted (marks-taken-back listable)
 
-        pub may-write : CanListAll true (rulesOf keys) rs t₂ (take (length form) places) (a .out)
+        pub may-write : CanListAll true (rulesOfKeys keys) rs t₂ (take (length form) places) (a .out)
         may-write = may-pass true t₂ (a .out) table-again (λ w. omega (arith, enough, ap (λ b. b .count) counted))
 
-        pub writes : {b : ListingPass} → b ≡ passOver true (rulesOf keys) rs t₂ (take (length form) places) (a .out) →
+        pub writes : {b : ListingPass} → b ≡ passOver true (rulesOfKeys keys) rs t₂ (take (length form) places) (a .out) →
             explainLeaves (record { number = 0; place = 0; accepted = true; records = b .count })
             (lentOf (b .table) rs) (b .out)
             ≡ explainListed (jobOf job .rules) rs listed out

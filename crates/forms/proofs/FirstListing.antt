@@ -9,7 +9,7 @@ use Rattle.machine.proofs.Tables.RuleRanges.{RulesInRange}
 use Rattle.machine.proofs.Steps.FirstPart.{done-first}
 use Rattle.machine.proofs.Tables.Places.{from-state-below, to-state-below, reason-place-below}
 use Rattle.forms.specs.Acceptance.{SymbolsFit, canFinish, route}
-use Rattle.forms.specs.Listing.{Listed, listing, inTurn, reasonAt, premises, reasonBytes, recordOf, visit}
+use Rattle.forms.specs.Listing.{Listed, listing, inTurn, reasonAt, premises, reasonBytes, listingRecord, visit}
 use Rattle.forms.specs.Listing.{depthBound, listAll, recordsAt}
 use Rattle.forms.proofs.Routes.{route-done}
 use Rattle.forms.specs.Inside.AcceptanceParts.{AgreeOn}
@@ -40,8 +40,8 @@ module _ (ρs : List Rule) (reasons rs : List ℕ) (p : ℕ) (same : reasonAt re
   unfolding premises
   premises-alike = rw same
 
-  record-alike : recordOf ρs reasons p ≡ recordOf ρs rs p
-  unfolding recordOf reasonBytes
+  record-alike : listingRecord ρs reasons p ≡ listingRecord ρs rs p
+  unfolding listingRecord reasonBytes
   record-alike = rw same
 
 reason-first : (reasons : List ℕ) (p : ℕ) → p < tableSize → reasonAt reasons p ≡ reasonAt (take reasonsSize reasons) p

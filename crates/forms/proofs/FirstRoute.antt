@@ -2,7 +2,7 @@
 -- finish, so no lower one. Assumes nothing.
 use Rattle.grammar.proofs.Basics.{_≡_, refl, true, Bool, List, _∷_, [], map, ℕ, _<_, _≤_, arith, ltb, ltb-false}
 use Rattle.grammar.proofs.Basics.{ltb-true, cases, and-both}
-use Rattle.machine.specs.Table.{place, toState}
+use Rattle.machine.specs.Table.{tablePlace, toState}
 use Rattle.forms.specs.Acceptance.{canFinish, nextState, route}
 use Rattle.forms.specs.Theorems.AcceptanceTheorems.{Done, Accepting, ends, follows, LexAtMost, none, lower}
 use Rattle.forms.specs.Theorems.AcceptanceTheorems.{later, FirstAccepting, placesAlong}
@@ -22,7 +22,7 @@ module _ (final : ℕ → Bool) (done : ℕ → ℕ → ℕ → Bool) where
   route-states [] q e = refl
   route-states (X ∷ w) q e =
       let (below, now, rest) = next-is final done X w q e in
-      let last : toState (place q X (nextState final done X w q)) ≡ nextState final done X w q = omega arith in
+      let last : toState (tablePlace q X (nextState final done X w q)) ≡ nextState final done X w q = omega arith in
       rw (last, route-states w _ rest)
 
   route-places : (w : List ℕ) (q : ℕ) → route final done w q ≡ placesAlong q w (nextStates w q)

@@ -1,15 +1,13 @@
 -- The checks of a form by what holds of its symbols: it is refused at the first byte over 63, and fits where there is
 -- none. Assumes nothing.
 use Rattle.grammar.proofs.Basics.{_≡_, refl, _∙_, ap, true, List, _∷_, [], ℕ, _<_, _≤_, _+_, suc, zero, suc-le-suc}
-use Rattle.grammar.proofs.Basics.{add-zero, arith, ltb, length, getD, eq-eqb, ne-eqb, ltb-false, lt-ltb, le-ltb, cases}
-use Rattle.job.specs.declared.Checked.{Checked}
+use Rattle.grammar.proofs.Basics.{add-zero, arith, ltb, length, getD, ltb-false, lt-ltb, le-ltb, cases}
 use Rattle.job.specs.Accepted.{Accepted}
-use Rattle.job.specs.Check.{jobCheck, orElse, refused, accepted}
-use Rattle.job.proofs.Accepted.{number-accepted}
-use Rattle.job.proofs.JobChecks.{both-pass, not-short}
+use Rattle.job.specs.Check.{jobCheck, shortBuffer, refused, accepted}
+use Rattle.job.proofs.CallChecks.{both-pass, long-enough, call-passed}
 use Rattle.forms.specs.Acceptance.{SymbolsFit}
 use Rattle.forms.specs.Operations.{firstOver, formCheck, askChecks, askCheck, askCheckBy}
-use Rattle.forms.specs.Inside.AcceptanceParts.{FormFits, shortOf}
+use Rattle.forms.specs.Inside.AcceptanceParts.{FormFits}
 
 -- the symbols before a position fit
 abbrev pub FitBefore : List ℕ → ℕ → Type 0
@@ -73,41 +71,18 @@ pub form-number : (form : List ℕ) → formCheck form .number ≤ 12
 unfolding formCheck
 form-number form = cases (ltb 64 (length form)) (λ t. rw t (omega arith)) (λ t. rw t (first-over-number 0 form))
 
--- the ways through the checks of ask, by the length of a lent table: a short one, a refused job, and the form's own
-module _ (n needed : ℕ) (job form : List ℕ) where
-  abbrev checks : Checked
-  checks = askChecks jobCheck (shortOf n needed) job form
-
-  pub ask-short : n < needed → checks ≡ refused 10 1
-  ask-short h = rw (lt-ltb n needed h)
-
-  module _ (long : needed ≤ n) {c : Checked} (e : c ≡ jobCheck true job) where
-    -- with a long table the job's check alone comes before the form's
-    job-first : checks ≡ orElse c (formCheck form)
-    job-first = rw (le-ltb n needed long, e)
-
-    pub ask-job : (c .number ≡ 0 → ⊥) → checks ≡ c
-    ask-job refusal = job-first ∙ rw (ne-eqb (c .number) 0 refusal)
-
-    pub ask-form : c .number ≡ 0 → checks ≡ formCheck form
-    ask-form none = job-first ∙ rw (eq-eqb (c .number) 0 none)
-
 -- what ask has made sure of where it refuses nothing
 pub record AskPassed (n needed : ℕ) (job form : List ℕ) : Type 0 where
   pub long : needed ≤ n
   pub job-accepted : Accepted true job
   pub form-fits : FormFits form
 
-pub ask-passed : (n needed : ℕ) (job form : List ℕ) → askChecks jobCheck (shortOf n needed) job form .number ≡ 0 →
+pub ask-passed : (n needed : ℕ) (job form : List ℕ) → askChecks jobCheck (shortBuffer n needed 1) job form .number ≡ 0 →
     AskPassed n needed job form
 ask-passed n needed job form e =
     let (c, f) = both-pass _ (formCheck form) e in
-    let (t, j) = both-pass (shortOf n needed) _ c in
-    record {
-      long = ltb-false n needed (not-short _ 1 t);
-      job-accepted = number-accepted true job j;
-      form-fits = fits-of-check form f;
-    }
+    let (short, ok) = call-passed _ true job c in
+    record { long = long-enough n needed 1 short; job-accepted = ok; form-fits = fits-of-check form f }
 
 pub ask-table-passed : (job table form : List ℕ) → askCheck job table form .number ≡ 0 →
     AskPassed (length table) 65536 job form

@@ -6,7 +6,7 @@ use Rattle.grammar.proofs.Basics.{_/_, _%_, arith, leb, getD, eq-eqb, ne-eqb, l
 use Rattle.grammar.specs.Rule.{Rule, head, empty}
 use Rattle.grammar.specs.Closure.{Closure}
 use Rattle.job.specs.Job.{Job}
-use Rattle.machine.specs.Table.{Lent, tableSize, place, fromState, symbolAt, toState, isAbsentAt, byteStatus}
+use Rattle.machine.specs.Table.{Lent, tableSize, tablePlace, fromState, symbolAt, toState, isAbsentAt, byteStatus}
 use Rattle.machine.specs.Table.{statuses, doneIn, doneAt, givenReason, reasonOf, turnAt}
 use Rattle.grammar.proofs.NoRepeat.{member-at}
 use Rattle.job.specs.Theorems.InRange.{RuleInRange, InRange}
@@ -87,8 +87,8 @@ module _ (J : Job) (range : InRange J) (m : Lent) (fit : ReasonsFit J (statuses 
   -- a premise
   premise-leads :
       (q X r : ℕ) → q < 32 → X < 64 → r < 32 →
-      Premise (doneAt (m .table)) (turnAt (m .reasons)) (place from symbol to) q X r →
-      (x : ℕ) → x ≡ place q X r → Below x
+      Premise (doneAt (m .table)) (turnAt (m .reasons)) (tablePlace from symbol to) q X r →
+      (x : ℕ) → x ≡ tablePlace q X r → Below x
   unfolding doneIn statuses
   premise-leads q X r ql xl rl a x e =
       rw e (

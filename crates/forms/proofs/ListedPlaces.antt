@@ -9,7 +9,7 @@ use lib.Seq.{drop-set-lt}
 use Rattle.grammar.specs.Rule.{Rule, empty, unit, pair}
 use Rattle.grammar.proofs.NoRepeat.{member-at}
 use Rattle.job.specs.Theorems.InRange.{RuleInRange}
-use Rattle.machine.specs.Table.{tableSize, place, fromState, toState, givenReason}
+use Rattle.machine.specs.Table.{tableSize, tablePlace, fromState, toState, givenReason}
 use Rattle.machine.proofs.Tables.RuleRanges.{RulesInRange}
 use Rattle.machine.proofs.Tables.Places.{place-below, from-state-below, to-state-below}
 use Rattle.forms.specs.Listing.{Listed, listing, inTurn, reasonAt, reasonRule, rulePremises, premises, isListed}
@@ -22,11 +22,11 @@ Within ps = (p : ℕ) → List·Memᴰ p ps → p < tableSize
 rule-within : (q m r : ℕ) (ρ : Rule) → q < 32 → m < 32 → r < 32 → RuleInRange ρ → Within (rulePremises q m r ρ)
 rule-within q m r (empty A) ql ml rl l p i = absurd (List·Memᴰ·not-nil i)
 rule-within q m r (unit A X) ql ml rl l p i =
-    let e : p ≡ place q X r = List·Memᴰ·eq-of-singleton i in rw e (place-below q X r ql (l .1) rl)
+    let e : p ≡ tablePlace q X r = List·Memᴰ·eq-of-singleton i in rw e (place-below q X r ql (l .1) rl)
 rule-within q m r (pair A X Y) ql ml rl l p i =
     ⊎-elim
     (λ e. rw e (place-below q X m ql (l .1) ml))
-    (λ k. let e : p ≡ place m Y r = List·Memᴰ·eq-of-singleton k in rw e (place-below m Y r ml (l .2) rl))
+    (λ k. let e : p ≡ tablePlace m Y r = List·Memᴰ·eq-of-singleton k in rw e (place-below m Y r ml (l .2) rl))
     (List·Memᴰ·cases-cons i)
 
 module _ (ρs : List Rule) (range : RulesInRange ρs) where

@@ -7,7 +7,7 @@ use lib.Seq.{drop-append-add}
 use Rattle.grammar.specs.Rule.{Rule}
 use Rattle.machine.specs.Table.{tableSize, doneCount, statuses, givenReason, turnAt, each}
 use Rattle.machine.proofs.Tables.Each.{length-each, getD-each-0}
-use Rattle.forms.specs.Listing.{reasonAt, reasonMiddle, premises, reasonBytes, recordOf, recordsAt, isListed}
+use Rattle.forms.specs.Listing.{reasonAt, reasonMiddle, premises, reasonBytes, listingRecord, recordsAt, isListed}
 use Rattle.forms.specs.Listing.{depthBound, listAll, unmarked}
 use Rattle.forms.specs.Grounded.{DonePlace}
 use Rattle.forms.specs.Inside.ListingParts.{fresh}
@@ -66,21 +66,21 @@ module _ {ρs : List Rule} {reasons t ps : List ℕ} (c : Listable ρs reasons t
 -- the record of the i-th place
 record-at :
     (ρs : List Rule) (reasons ps : List ℕ) (i : ℕ) → i < length ps →
-    take 8 (drop (8 * i) (recordsAt ρs reasons ps)) ≡ recordOf ρs reasons (getD ps i 0)
+    take 8 (drop (8 * i) (recordsAt ρs reasons ps)) ≡ listingRecord ρs reasons (getD ps i 0)
 unfolding recordsAt
 record-at ρs reasons [] i h = absurd (omega arith)
 record-at ρs reasons (p ∷ ps) zero h =
     take-at _ _ 8 (record-length ρs reasons p)
 record-at ρs reasons (p ∷ ps) (suc i) h =
-    let start : 8 * suc i ≡ length (recordOf ρs reasons p) + 8 * i = omega (arith, record-length ρs reasons p) in
+    let start : 8 * suc i ≡ length (listingRecord ρs reasons p) + 8 * i = omega (arith, record-length ρs reasons p) in
     rw (start, drop-append-add _ _ _)
     (record-at ρs reasons ps i (omega arith))
 
 -- a record says that its transition is given, or by which rule it is there
 module _ {ρs : List Rule} {given : ℕ → ℕ → ℕ → Bool} {reasons t ps : List ℕ} (c : Listable ρs reasons t ps)
     (true-reasons : TrueReasons ρs given reasons t) where
-  record-says : (p : ℕ) → DonePlace t p → RecordSays ρs given p (recordOf ρs reasons p) (premises ρs reasons p)
-  unfolding recordOf reasonBytes premises
+  record-says : (p : ℕ) → DonePlace t p → RecordSays ρs given p (listingRecord ρs reasons p) (premises ρs reasons p)
+  unfolding listingRecord reasonBytes premises
   record-says p d =
       cases
       (eqb (reasonAt reasons p) givenReason)

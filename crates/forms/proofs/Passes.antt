@@ -4,13 +4,13 @@ use Rattle.grammar.proofs.Basics.{ℕ, _+_, suc, zero, _*_, add-zero, arith, le
 use native.Mathlib.Nat.{add-assoc, mul-add}
 use lib.Seq.{length-sets}
 use Rattle.grammar.specs.Rule.{Rule}
-use Rattle.forms.specs.Listing.{Listed, inTurn, visit, premises, recordOf, recordsAt, isListed}
+use Rattle.forms.specs.Listing.{Listed, inTurn, visit, premises, listingRecord, recordsAt, isListed}
 use Rattle.forms.specs.Inside.ListingParts.{fresh, shown, listOne, ListingPass, passOf}
 use Rattle.forms.proofs.ReasonLaws.{record-length}
 
 -- one listing
 pub listed-written : (ρs : List Rule) (reasons t out : List ℕ) {out' : List ℕ} (n p : ℕ) →
-    out' ≡ sets out (8 * n) (recordOf ρs reasons p) →
+    out' ≡ sets out (8 * n) (listingRecord ρs reasons p) →
     passOf (set t p 3) (n + 1) out' ≡ listOne true ρs reasons p (passOf t n out)
 unfolding shown recordsAt
 listed-written ρs reasons t out n p e = rw (append-nil _, e)
@@ -40,7 +40,7 @@ module _ (ρs : List Rule) (reasons : List ℕ) where
   records-length (p ∷ ps) =
       omega (
         arith,
-        length-append (recordOf ρs reasons p) (recordsAt ρs reasons ps),
+        length-append (listingRecord ρs reasons p) (recordsAt ρs reasons ps),
         record-length ρs reasons p,
         records-length ps,
       )

@@ -8,12 +8,13 @@ use native.Mathlib.Numerals.{towards-suc}
 use Rattle.grammar.specs.Rule.{Rule, empty, unit, pair}
 use Rattle.job.specs.Inside.Keys.{ruleOfKey}
 use Rattle.job.specs.Format.{byteU, byteP}
-use Rattle.machine.specs.Table.{tableSize, place, fromState, symbolAt, toState, givenReason}
+use Rattle.machine.specs.Table.{tableSize, tablePlace, fromState, symbolAt, toState, givenReason}
 use Rattle.forms.specs.declared.ReasonBytes.{ReasonBytes}
-use Rattle.forms.specs.Listing.{reasonAt, rulePremises, ruleBytes, reasonBytes, premises, recordOf, isListed}
+use Rattle.forms.specs.Listing.{reasonAt, rulePremises, ruleBytes, reasonBytes, premises, listingRecord, isListed}
 use Rattle.forms.specs.Listing.{byteG}
 use Rattle.forms.specs.Grounded.{DonePlace, ReasonFits}
-use Rattle.forms.specs.Inside.ListingParts.{rulesOf, fiveBytes, firstUnlisted, HasReason, CanList}
+use Rattle.forms.specs.Inside.ListingParts.{fiveBytes, firstUnlisted, HasReason, CanList}
+use Rattle.job.specs.Inside.Keys.{rulesOfKeys}
 
 getD-map-below :
     {A : Type 0} (f : ℕ → A) (l : List ℕ) (k : ℕ) (d : A) → k < length l → getD (map f l) k d ≡ f (getD l k 0)
@@ -26,10 +27,10 @@ pub rank-below : (ρs : List Rule) (reason : ℕ) → ReasonFits ρs reason → 
     (1 ≤ reason) × ((reason - 1) / 32 < length ρs)
 rank-below ρs reason fits other = ⊎-elim (λ e. absurd (other e)) (λ r. (r .0, omega arith)) fits
 
-pub key-below : (keys : List ℕ) (reason : ℕ) → ReasonFits (rulesOf keys) reason → (reason ≡ givenReason → ⊥) →
+pub key-below : (keys : List ℕ) (reason : ℕ) → ReasonFits (rulesOfKeys keys) reason → (reason ≡ givenReason → ⊥) →
     (1 ≤ reason) × ((reason - 1) / 32 < length keys)
 key-below keys reason fits other =
-    let r = rank-below (rulesOf keys) reason fits other in (r .0, omega (arith, r .1, length-map keys ruleOfKey))
+    let r = rank-below (rulesOfKeys keys) reason fits other in (r .0, omega (arith, r .1, length-map keys ruleOfKey))
 
 -- the bytes of a reason
 pub bytes-given :
@@ -39,8 +40,8 @@ unfolding reasonBytes
 bytes-given ρs reasons p reason e g = rw (eq-eqb _ givenReason (sym e ∙ g))
 
 pub bytes-of-key : (keys reasons : List ℕ) (p reason : ℕ) → reason ≡ reasonAt reasons p →
-    ReasonFits (rulesOf keys) (reasonAt reasons p) → (reason ≡ givenReason → ⊥) →
-    ruleBytes ((reason - 1) % 32) (ruleOfKey (getD keys ((reason - 1) / 32) 0)) ≡ reasonBytes (rulesOf keys) reasons p
+    ReasonFits (rulesOfKeys keys) (reasonAt reasons p) → (reason ≡ givenReason → ⊥) →
+    ruleBytes ((reason - 1) % 32) (ruleOfKey (getD keys ((reason - 1) / 32) 0)) ≡ reasonBytes (rulesOfKeys keys) reasons p
 unfolding reasonBytes
 bytes-of-key keys reasons p reason e fits other =
     let not : reasonAt reasons p ≡ givenReason → ⊥ = λ g. other (e ∙ g) in
@@ -58,8 +59,8 @@ rule-bytes-length m (empty A) = refl
 rule-bytes-length m (unit A Y) = refl
 rule-bytes-length m (pair A B C) = refl
 
-pub record-length : (ρs : List Rule) (reasons : List ℕ) (p : ℕ) → length (recordOf ρs reasons p) ≡ 8
-unfolding recordOf reasonBytes
+pub record-length : (ρs : List Rule) (reasons : List ℕ) (p : ℕ) → length (listingRecord ρs reasons p) ≡ 8
+unfolding listingRecord reasonBytes
 record-length ρs reasons p =
     cases (eqb (reasonAt reasons p) givenReason) (λ e. rw e) (λ e. rw (e, rule-bytes-length))
 
@@ -80,15 +81,15 @@ pub record-stored :
     (why .middle))
     (at + 7)
     0
-    ≡ sets out at (recordOf ρs reasons p)
-unfolding recordOf
+    ≡ sets out at (listingRecord ρs reasons p)
+unfolding listingRecord
 record-stored has why read out at = rw (← read) (simp towards-suc)
 
 -- the premises that five bytes tell
 abbrev told : ℕ → ℕ → List ℕ → List ℕ
 told q r bs =
-    cond (eqb (getD bs 0 0) byteU) (place q (getD bs 1 0) r ∷ [])
-    (cond (eqb (getD bs 0 0) byteP) (place q (getD bs 1 0) (getD bs 3 0) ∷ place (getD bs 3 0) (getD bs 2 0) r ∷ [])
+    cond (eqb (getD bs 0 0) byteU) (tablePlace q (getD bs 1 0) r ∷ [])
+    (cond (eqb (getD bs 0 0) byteP) (tablePlace q (getD bs 1 0) (getD bs 3 0) ∷ tablePlace (getD bs 3 0) (getD bs 2 0) r ∷ [])
     [])
 
 rule-tells : (q m r : ℕ) (ρ : Rule) → rulePremises q m r ρ ≡ told q r (ruleBytes m ρ)
@@ -113,28 +114,28 @@ module _ {ρs : List Rule} {reasons t : List ℕ} {p : ℕ} (can : CanList ρs r
   -- the first premise that is not listed, and where they lie
   pub next-of-unit : why .kind ≡ byteU →
       firstUnlisted t
-      (place (fromState p) (why .second) (toState p) ∷ place (fromState p) (why .second) (toState p) ∷ [])
+      (tablePlace (fromState p) (why .second) (toState p) ∷ tablePlace (fromState p) (why .second) (toState p) ∷ [])
       ≡ firstUnlisted t (premises ρs reasons p)
   unfolding firstUnlisted
   next-of-unit k =
-      let a : ℕ = place (fromState p) (why .second) (toState p) in rw (tells, k) (twice (isListed t a) a tableSize)
+      let a : ℕ = tablePlace (fromState p) (why .second) (toState p) in rw (tells, k) (twice (isListed t a) a tableSize)
     where
       twice : (b : Bool) (a n : ℕ) → cond b (cond b n a) a ≡ cond b n a
       twice true a n = refl
       twice false a n = refl
 
-  pub unit-within : why .kind ≡ byteU → place (fromState p) (why .second) (toState p) < length t
+  pub unit-within : why .kind ≡ byteU → tablePlace (fromState p) (why .second) (toState p) < length t
   unit-within k = inside _ (rw (tells, k) (List·Memᴰ·head refl))
 
   pub next-of-pair : why .kind ≡ byteP →
       firstUnlisted t
-      (place (fromState p) (why .second) (why .middle) ∷ place (why .middle) (why .third) (toState p) ∷ [])
+      (tablePlace (fromState p) (why .second) (why .middle) ∷ tablePlace (why .middle) (why .third) (toState p) ∷ [])
       ≡ firstUnlisted t (premises ρs reasons p)
   next-of-pair k = rw (tells, k)
 
   pub pair-within : why .kind ≡ byteP →
-      (place (fromState p) (why .second) (why .middle) < length t)
-      × (place (why .middle) (why .third) (toState p) < length t)
+      (tablePlace (fromState p) (why .second) (why .middle) < length t)
+      × (tablePlace (why .middle) (why .third) (toState p) < length t)
   pair-within k = (
     inside _ (rw (tells, k) (List·Memᴰ·head refl)),
     inside _ (rw (tells, k) (List·Memᴰ·tail (List·Memᴰ·head refl))),

@@ -5,7 +5,7 @@ use Rattle.grammar.proofs.Basics.{List·Memᴰ·not-nil, List·Memᴰ·cases-co
 use Rattle.grammar.proofs.Basics.{suc-le-suc, add-one, arith, length, getD, take, set, drop, length-set, drop-cons}
 use Rattle.grammar.proofs.Basics.{drop-length, and-split}
 use lib.Seq.{take-suc-set}
-use Rattle.machine.specs.Table.{place, doneIn, statuses, doneAt}
+use Rattle.machine.specs.Table.{tablePlace, doneIn, statuses, doneAt}
 use Rattle.machine.proofs.Tables.Places.{place-below}
 use Rattle.forms.specs.Acceptance.{canFinish, nextState, route, SymbolsFit}
 use Rattle.forms.specs.Grounded.{DonePlace}
@@ -45,7 +45,7 @@ module _ {final : ℕ → Bool} {done : ℕ → ℕ → ℕ → Bool} {form plac
           rw e (below, later)
 
       -- one transition more
-      pub route-more : {p : ℕ} → p ≡ place at (getD form i 0) r → i < length places →
+      pub route-more : {p : ℕ} → p ≡ tablePlace at (getD form i 0) r → i < length places →
           RouteFilled final done form (set places i p) q r (i + 1)
       unfolding route
       route-more {p} at-place m =

@@ -7,7 +7,7 @@ use Rattle.grammar.specs.Counting.{some}
 use Rattle.grammar.proofs.Some.{some-cong}
 use Rattle.machine.specs.Table.{isDone, doneIn}
 use Rattle.machine.proofs.Tables.FirstFrom.{first-cong, is-first}
-use Rattle.bit_machine.specs.BitTable.{bitOf, bitStatuses, bytesOf}
+use Rattle.bit_machine.specs.BitTable.{bitOf, bitStatuses, tableOfBits}
 use Rattle.bit_machine.specs.Inside.Word.{First}
 use Rattle.bit_machine.proofs.BitLaws.{bit-and}
 use Rattle.bit_machine.proofs.StateWords.{done-bit}
@@ -56,7 +56,7 @@ module _ (bits form finish : List ℕ) (room : length form < length finish) wher
 -- the first one of a row of done transitions and the word of the next position is the next state
 pub next-found : (final : ℕ → Bool) (bits form finish : List ℕ) → FinishWords final bits form finish →
     (i at row r : ℕ) → i < length form → at < 32 → getD form i 0 < 64 →
-    ((j : ℕ) → j < 32 → bitOf row j ≡ isDone (getD (bytesOf bits) ((at * 64 + getD form i 0) * 32 + j) 0)) →
+    ((j : ℕ) → j < 32 → bitOf row j ≡ isDone (getD (tableOfBits bits) ((at * 64 + getD form i 0) * 32 + j) 0)) →
     First (bitAnd row (getD finish (i + 1) 0)) r →
     r ≡ nextState final (doneIn (bitStatuses bits)) (getD form i 0) (drop (suc i) form) at
 unfolding nextState

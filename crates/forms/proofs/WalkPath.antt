@@ -6,7 +6,7 @@ use Rattle.grammar.proofs.Basics.{_+_, suc, _-_, zero, add-one, arith, eqb, len
 use Rattle.grammar.proofs.Basics.{getD-set-other, getD-set-same}
 use Rattle.grammar.specs.Counting.{NoRepeat}
 use Rattle.grammar.proofs.NoRepeat.{no-repeat-map}
-use Rattle.machine.specs.Table.{reasonsSize, fromState, symbolAt, toState, place, reasonPlace, reasonState}
+use Rattle.machine.specs.Table.{reasonsSize, fromState, symbolAt, toState, tablePlace, reasonPlace, reasonState}
 use Rattle.machine.specs.Table.{reasonVariable}
 use Rattle.machine.proofs.Tables.Places.{to-state-below, place-of-parts, reason-state-place, reason-variable-place}
 use Rattle.machine.proofs.Tables.Places.{to-state-reason-place}
@@ -73,7 +73,7 @@ module _ {turn : ℕ → ℕ} {t now : List ℕ} where
       at p = reasonPlace (fromState p) (symbolAt p) (toState p)
 
       from : ℕ → ℕ
-      from r = place (reasonState r) (reasonVariable r) (toState r)
+      from r = tablePlace (reasonState r) (reasonVariable r) (toState r)
 
       back : (p : ℕ) → DonePlace t p × (symbolAt p < 32) → from (at p) ≡ p
       back p d =

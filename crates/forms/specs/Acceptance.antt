@@ -10,7 +10,7 @@ use Rattle.grammar.specs.Derivation.{Derives}
 use Rattle.grammar.specs.Automaton.{Holds, Path}
 use Rattle.grammar.specs.Counting.{some}
 use Rattle.job.specs.Job.{Job}
-use Rattle.machine.specs.Table.{place}
+use Rattle.machine.specs.Table.{tablePlace}
 use Rattle.machine.specs.Step.{firstFrom}
 
 -- The job: the bytes of a form are symbols, variables or terminals, from 0 to 63
@@ -37,7 +37,7 @@ nextState final done X w q = firstFrom (λ r. done q X r && canFinish final done
 unfoldable pub route : (ℕ → Bool) → (ℕ → ℕ → ℕ → Bool) → List ℕ → ℕ → List ℕ
 route final done [] q = []
 route final done (X ∷ w) q =
-    place q X (nextState final done X w q) ∷ route final done w (nextState final done X w q)
+    tablePlace q X (nextState final done X w q) ∷ route final done w (nextState final done X w q)
 
 -- The demands, 2: the form derives, by the job's rules, some string along which the given transitions lead from the
 -- initial state to a final one. That is membership in pre* of the language of the job's automaton ([Esparza], section

@@ -6,7 +6,7 @@ use lib.Dec.{eqb, leb, ltb}
 use lib.ListN.{getD, set}
 use Rattle.grammar.specs.Rule.{Rule, empty, unit, pair}
 use Rattle.job.specs.Format.{byteE, byteU, byteP}
-use Rattle.machine.specs.Table.{tableSize, place, fromState, symbolAt, toState, reasonPlace, givenReason, reasonIn}
+use Rattle.machine.specs.Table.{tableSize, tablePlace, fromState, symbolAt, toState, reasonPlace, givenReason, reasonIn}
 
 -- the reason of the transition at a place, without its turn; that of a terminal is given, as no rule adds one
 abbrev pub reasonAt : List ℕ → ℕ → ℕ
@@ -25,8 +25,8 @@ reasonMiddle reason = (reason - 1) % 32
 -- one; an ε rule has none
 abbrev pub rulePremises : ℕ → ℕ → ℕ → Rule → List ℕ
 rulePremises q m r (empty A) = []
-rulePremises q m r (unit A X) = place q X r ∷ []
-rulePremises q m r (pair A B C) = place q B m ∷ place m C r ∷ []
+rulePremises q m r (unit A X) = tablePlace q X r ∷ []
+rulePremises q m r (pair A B C) = tablePlace q B m ∷ tablePlace m C r ∷ []
 
 -- and a given transition has none
 unfoldable pub premises : List Rule → List ℕ → ℕ → List ℕ
@@ -52,8 +52,8 @@ reasonBytes rules reasons p =
     (ruleBytes (reasonMiddle (reasonAt reasons p)) (reasonRule rules (reasonAt reasons p)))
 
 -- Forms and listings: a record has 8 bytes, of which the first three are q, X and r
-unfoldable pub recordOf : List Rule → List ℕ → ℕ → List ℕ
-recordOf rules reasons p = fromState p ∷ symbolAt p ∷ toState p ∷ reasonBytes rules reasons p
+unfoldable pub listingRecord : List Rule → List ℕ → ℕ → List ℕ
+listingRecord rules reasons p = fromState p ∷ symbolAt p ∷ toState p ∷ reasonBytes rules reasons p
 
 -- what a listing has come to: the table with its marks, and the places listed so far
 pub record Listed : Type 0 where
@@ -93,7 +93,7 @@ listAll rules reasons table ps =
 -- the bytes of the records of the places listed
 unfoldable pub recordsAt : List Rule → List ℕ → List ℕ → List ℕ
 recordsAt rules reasons [] = []
-recordsAt rules reasons (p ∷ ps) = recordOf rules reasons p ++ recordsAt rules reasons ps
+recordsAt rules reasons (p ∷ ps) = listingRecord rules reasons p ++ recordsAt rules reasons ps
 
 -- a mark taken back, in the part of the table that is in use
 abbrev pub unmarked : ℕ → ℕ → ℕ

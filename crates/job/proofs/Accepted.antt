@@ -3,9 +3,8 @@
 -- those seen are sound. Assumes nothing.
 use Rattle.grammar.proofs.Basics.{_≡_, refl, sym, ap, ⊎-elim, true, false, Bool, _&&_, cond, _||_, true≢false, List}
 use Rattle.grammar.proofs.Basics.{_∷_, [], _++_, List·Memᴰ·head, List·Memᴰ·not-nil, List·Memᴰ·cases-cons, append-nil}
-use Rattle.grammar.proofs.Basics.{append-assoc, ℕ, _<_, _≤_, _+_, suc, _%_, arith, eqb, leb, length, eq-eqb, ne-eqb}
-use Rattle.grammar.proofs.Basics.{eqb-true, eqb-false, ltb-false, leb-false, lt-leb, le-ltb, not-false, cases}
-use Rattle.grammar.proofs.Basics.{true-and-false, not-true-false}
+use Rattle.grammar.proofs.Basics.{append-assoc, ℕ, _<_, _≤_, _+_, _%_, arith, eqb, leb, length, eq-eqb, ne-eqb}
+use Rattle.grammar.proofs.Basics.{eqb-true, eqb-false, leb-false, lt-leb, not-false, true-and-false, not-true-false}
 use mathlib.Core.List.{Permᴰ·middle, List·Permᴰ·append-comm}
 use native.Mathlib.Nat.{pos-of-ne-zero, le-antisymm, le-of-eq}
 use Rattle.grammar.specs.Counting.{one-if, NoRepeat}
@@ -13,12 +12,13 @@ use Rattle.job.specs.declared.JobRecord.{JobRecord}
 use Rattle.job.specs.declared.Limits.{Limits}
 use Rattle.job.specs.declared.Checked.{Checked}
 use Rattle.job.specs.Format.{ClassTable, fieldClasses, recordsOf, rowOf, isRule, has, byteI, byteS}
-use Rattle.job.specs.Check.{refused, accepted, fullLimits, countKind, countRules, fault, firstFault, missing}
-use Rattle.job.specs.Check.{checkOf, jobCheck, orElse}
+use Rattle.job.specs.Records.{refused, accepted, firstFault}
+use Rattle.job.specs.Check.{fullLimits, countKind, countRules, fault, jobFormat, missing, checkOf, jobCheck}
 use Rattle.job.specs.Accepted.{Accepted}
 use Rattle.job.specs.Theorems.InRange.{CheckAccepts}
 use Rattle.job.proofs.Members.{has-member, member-has}
 use Rattle.job.proofs.Shapes.{test-passed, known-row}
+use Rattle.job.proofs.RecordChecks.{check-passed-test, both-pass, walks-on, by-records, bytes-passed}
 use Rattle.job.proofs.Sound.{Sound, sound-permutes, sound-front}
 
 -- of two tests of which none passes, neither does
@@ -77,19 +77,15 @@ module _ (classes : ClassTable) (limits : Limits) where
 
   -- the walk from those seen on refuses nothing exactly where all are sound
   unrefused-sound : (seen rs : List JobRecord) → Sound classes limits seen
-      → firstFault classes limits seen rs .number ≡ 0
+      → firstFault (jobFormat classes limits) seen rs .number ≡ 0
       → Sound classes limits (seen ++ rs)
-  unfolding firstFault
   unrefused-sound seen [] s e = rw append-nil s
   unrefused-sound seen (r ∷ rs) s e =
-      cases (eqb (fault classes limits seen r) 0)
-      (λ t.
-      let grown = grows-behind seen r s (eqb-true _ _ t) in
-      rw append-assoc at (unrefused-sound (seen ++ (r ∷ [])) rs grown (rw t at e)))
-      (λ t. absurd (eqb-false _ _ t (rw t at e)))
+      let (here, on) = walks-on (jobFormat classes limits) seen r rs e in
+      rw append-assoc at (unrefused-sound (seen ++ (r ∷ [])) rs (grows-behind seen r s here) on)
 
   sound-unrefused : (seen rs : List JobRecord) → Sound classes limits (seen ++ rs)
-      → firstFault classes limits seen rs ≡ accepted
+      → firstFault (jobFormat classes limits) seen rs ≡ accepted
   unfolding firstFault
   sound-unrefused seen [] s = refl
   sound-unrefused seen (r ∷ rs) s =
@@ -118,18 +114,6 @@ pub record Passed (classes : ClassTable) (limits : Limits) (needed : Bool) (job 
   pub start : 0 < countKind byteS (recordsOf job)
   pub initial : needed ≡ true → 0 < countKind byteI (recordsOf job)
 
--- a check that refuses nothing passes each test that would refuse
-pub check-passed-test : (b : Bool) (n p : ℕ) (c : Checked) → cond b (refused (suc n) p) c .number ≡ 0
-    → (b ≡ false) × (c .number ≡ 0)
-check-passed-test true n p c e = absurd (omega arith)
-check-passed-test false n p c e = (refl, e)
-
--- of two checks in turn that refuse nothing, neither does
-pub both-pass : (c d : Checked) → orElse c d .number ≡ 0 → (c .number ≡ 0) × (d .number ≡ 0)
-both-pass c d e =
-    cases (eqb (c .number) 0) (λ t. (eqb-true (c .number) 0 t, rw t at e))
-    (λ t. absurd (eqb-false (c .number) 0 t (rw t at e)))
-
 -- no I is missing where one is there if it is needed
 not-missing : (needed : Bool) (n : ℕ) → (needed ≡ true → 0 < n) → (needed && eqb n 0) ≡ false
 not-missing true n h = ne-eqb n 0 (omega (arith, h refl))
@@ -143,8 +127,7 @@ pub only-initial : (classes : ClassTable) (limits : Limits) (needed : Bool) {oth
 unfolding checkOf missing
 only-initial classes limits needed {job = job} a =
     rw (
-      le-ltb 16384 (length job) (a .within),
-      eq-eqb (length job % 4) 0 (a .whole),
+      by-records (jobFormat classes limits) job (a .within) (a .whole),
       sound-unrefused classes limits [] (recordsOf job) (a .sound),
       ne-eqb (countKind byteS (recordsOf job)) 0 (omega (arith, a .start)),
     )
@@ -155,14 +138,13 @@ module _ (classes : ClassTable) (limits : Limits) (needed : Bool) (job : List �
   unfolding checkOf missing
   number-passed e =
       let rs = recordsOf job in
-      let (long, e) = check-passed-test _ _ _ _ e in
-      let (broken, e) = check-passed-test _ _ _ _ e in
-      let (unrefused, e) = both-pass _ _ e in
+      let (first, e) = both-pass _ _ e in
+      let (within, whole, unrefused) = bytes-passed (jobFormat classes limits) job first in
       let (start, e) = check-passed-test _ _ _ _ e in
       let (initial, e) = check-passed-test (needed && eqb (countKind byteI rs) 0) _ _ _ e in
       record {
-        within = ltb-false _ _ long;
-        whole = eqb-true _ _ (not-false _ broken);
+        within = within;
+        whole = whole;
         sound = unrefused-sound classes limits [] rs (empty-sound classes limits) unrefused;
         start = pos-of-ne-zero (eqb-false _ _ start);
         initial = λ t. pos-of-ne-zero (eqb-false _ _ (rw t at initial));

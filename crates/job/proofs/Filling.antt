@@ -1,5 +1,5 @@
 -- Writing the first n numbers of a list, one after the other. Assumes nothing.
-use Rattle.grammar.proofs.Basics.{_≡_, refl, ap, List, _∷_, [], ℕ, _<_, _+_, suc, zero, add-zero, zero-add}
+use Rattle.grammar.proofs.Basics.{_≡_, refl, ap, List, _∷_, [], ℕ, _<_, _≤_, _+_, suc, zero, add-zero, zero-add}
 use Rattle.grammar.proofs.Basics.{add-one, arith, length, getD, take, set, drop}
 use Rattle.job.specs.Written.{written}
 
@@ -24,7 +24,7 @@ pub written-at : (f : ℕ → ℕ) (n : ℕ) (xs : List ℕ) (k : ℕ) → k < n
 written-at f n xs k l m = rw (zero-add k) at (written-from f 0 n xs k l m)
 
 -- one more is written
-written-next :
+pub written-next :
     (f : ℕ → ℕ) (i n : ℕ) (xs : List ℕ) → n < length xs → set (written f i n xs) n (f (i + n)) ≡ written f i (suc n) xs
 unfolding written
 written-next f i n [] l = absurd (omega arith)
@@ -37,6 +37,14 @@ pub written-more :
     (f : ℕ → ℕ) (n : ℕ) (xs : List ℕ) {ys : List ℕ} {v : ℕ} → n < length xs → ys ≡ written f 0 n xs → v ≡ f n →
     set ys n v ≡ written f 0 (n + 1) xs
 written-more f n xs l e p = rw (e, p, add-one n) (rw (zero-add n) at (written-next f 0 n xs l))
+
+-- past them all is as before
+pub written-past : (f : ℕ → ℕ) (i n : ℕ) (xs : List ℕ) (k : ℕ) → n ≤ k → getD (written f i n xs) k 0 ≡ getD xs k 0
+unfolding written
+written-past f i zero xs k h = refl
+written-past f i (suc n) [] k h = refl
+written-past f i (suc n) (x ∷ xs) zero h = omega arith
+written-past f i (suc n) (x ∷ xs) (suc k) h = written-past f (suc i) n xs k (omega arith)
 
 -- what is written depends on the length alone, and the rest is the rest
 pub written-alike : (f : ℕ → ℕ) (i n : ℕ) (xs ys : List ℕ) → length xs ≡ length ys →

@@ -1,18 +1,15 @@
 -- Laws of the checks of a job's bytes: where a job passes the verdicts' checks, all that is left is whether it has an
 -- I, which the order of the records does not change. Assumes nothing.
-use Rattle.grammar.proofs.Basics.{_≡_, refl, ap, true, false, Bool, _&&_, cond, List, [], ℕ, _≤_, suc, _*_, arith, eqb}
+use Rattle.grammar.proofs.Basics.{_≡_, refl, ap, false, Bool, _&&_, List, [], ℕ, _≤_, suc, _*_, arith, eqb}
 use Rattle.grammar.proofs.Basics.{ltb, length, ltb-false, cases}
-use Rattle.job.specs.declared.Checked.{Checked}
-use Rattle.job.specs.declared.Limits.{Limits}
 use Rattle.job.specs.Format.{fieldClasses, recordsOf, byteI}
-use Rattle.job.specs.Check.{countKind, refused, accepted, checkOf, fullLimits, jobCheck, roomCheck}
+use Rattle.job.specs.Check.{countKind, fullLimits, jobCheck, roomCheck}
 use Rattle.job.specs.Accepted.{Accepted}
 use Rattle.job.specs.Order.{SameRecords}
 use Rattle.job.specs.Show.{partOf, shownPart, shownOf}
 use Rattle.job.proofs.Permutation.{always-permutes, count-kind-permutes}
 use Rattle.job.proofs.Accepted.{accepted-passed, accepted-check, only-initial}
 use Rattle.job.proofs.OrderFree.{accepted-permutes}
-pub use Rattle.job.proofs.Accepted.{both-pass}
 
 -- The two runs: without an I, the other calls' 9 is the same in both runs
 pub check-alike : (needed : Bool) {a b : List ℕ} → SameRecords a b → Accepted false a
@@ -36,19 +33,8 @@ pub nothing-shown : {job : List ℕ} → Accepted false job → shownOf job ≡ 
 unfolding shownOf shownPart partOf
 nothing-shown ok = rw (accepted-check ok)
 
--- a buffer that is not refused is not short
-pub not-short : (short : Bool) (place : ℕ) → cond short (refused 10 place) accepted .number ≡ 0 → short ≡ false
-not-short true place e = absurd (omega arith)
-not-short false place e = refl
-
--- nor is one that is not refused by 13
+-- records that are not refused by 13 fit
 pub room-fits : (records room : ℕ) → roomCheck records room .number ≡ 0 → 4 * records ≤ room
 unfolding roomCheck
 room-fits records room e =
     cases (ltb room (4 * records)) (λ t. absurd (omega (arith, rw t at e))) (λ t. ltb-false room (4 * records) t)
-
--- the limits of a call are the full ones
-pub at-full-limits :
-    {l : Limits} (needed : Bool) (job : List ℕ) {c : Checked} → l ≡ fullLimits →
-    c ≡ checkOf fieldClasses l needed job → c ≡ jobCheck needed job
-at-full-limits needed job e h = rw e at h

@@ -1,10 +1,10 @@
 -- The rule of a sort key by its kind byte, the same rule read by value, and the rules of a list of keys. Assumes
 -- nothing.
 use Rattle.grammar.proofs.Basics.{_≡_, refl, List, _∷_, [], _++_, List·Memᴰ·head, List·Memᴰ·tail, List·Memᴰ·not-nil}
-use Rattle.grammar.proofs.Basics.{ℕ, _<_, _+_, suc, add-one, arith, eqb, length, getD, take, take-suc, cases}
+use Rattle.grammar.proofs.Basics.{map, ℕ, _<_, _+_, suc, add-one, arith, eqb, length, getD, take, take-suc, cases}
 use mathlib.Core.List.{map-append}
 use Rattle.grammar.specs.Rule.{Rule, head, empty, unit, pair}
-use Rattle.job.specs.declared.Rule as declared
+use Rattle.job.specs.declared.RuleFields as declared
 use Rattle.job.specs.Format.{byteE, byteU}
 use Rattle.job.specs.Inside.Keys.{keyKind, unpacked, ruleOfKey, KeyFits, rulesOfKeys, ruleFrom, RuleFits}
 use Rattle.job.specs.Theorems.InRange.{RuleInRange, RulesInRange}
@@ -31,13 +31,18 @@ head-below (empty A) r = r
 head-below (unit A X) r = r .0
 head-below (pair A X Y) r = r .0
 
+-- what is made of one key more
+pub mapped-more : {A : Type 0} (f : ℕ → A) (keys : List ℕ) (k : ℕ) → k < length keys →
+    map f (take (k + 1) keys) ≡ map f (take k keys) ++ (f (getD keys k 0) ∷ [])
+mapped-more f keys k l = rw (add-one, take-suc keys k 0, map-append)
+
 -- the rules of one key more
 pub rules-more : (keys : List ℕ) (k : ℕ) → k < length keys →
     rulesOfKeys (take (k + 1) keys) ≡ rulesOfKeys (take k keys) ++ (ruleOfKey (getD keys k 0) ∷ [])
-rules-more keys k l = rw (add-one, take-suc keys k 0, map-append)
+rules-more keys k l = mapped-more ruleOfKey keys k l
 
 -- what holds of the three shapes holds of a rule read by value
-module _ (r : declared.Rule) where
+module _ (r : declared.RuleFields) where
   by-kind : (P : Rule → Type 0) → P (empty (r .head)) → P (unit (r .head) (r .second)) →
       P (pair (r .head) (r .second) (r .third)) → P (ruleFrom r)
   unfolding ruleFrom
@@ -53,7 +58,7 @@ module _ (r : declared.Rule) where
   from-in-range f = by-kind RuleInRange (f .head) (f .head, f .second) (f .head, f .second, f .third)
 
 -- the rule that was read from a key
-module _ {r : declared.Rule} (k : ℕ) (e : r ≡ unpacked k) where
+module _ {r : declared.RuleFields} (k : ℕ) (e : r ≡ unpacked k) where
   pub read-rule : ruleFrom r ≡ ruleOfKey k
   unfolding ruleFrom ruleOfKey
   read-rule = rw e

@@ -9,7 +9,8 @@ use Rattle.job.specs.declared.JobRecord.{JobRecord}
 use Rattle.job.specs.Format.{recordsOf, noRecord, byteE, byteU, byteP}
 use Rattle.job.specs.Accepted.{Accepted}
 use Rattle.job.specs.Job.{sortKey, sortedRules, ruleOf, jobOf, jobOfRecords}
-use Rattle.job.specs.Inside.Keys.{keyHead, keyKind, keySecond, keyThird, ruleOfKey, KeyFits, Keys, rulesOfKeys}
+use Rattle.job.specs.Inside.Keys.{keyHead, keyKind, keySecond, keyThird, recordOfKey, ruleOfKey, KeyFits, Keys, rulesOfKeys}
+use Rattle.job.proofs.Members.{record-path}
 use Rattle.job.proofs.Shapes.{RuleShape, empty-shape, unit-shape, pair-shape, rule-shape, shape-bounds}
 use Rattle.job.proofs.Ranks.{sorted-member}
 use Rattle.job.proofs.Insertion.{rules-counted}
@@ -24,7 +25,11 @@ record Decoded (r : JobRecord) : Type 0 where
 decoded : {r : JobRecord} → RuleShape r → Decoded r
 decoded s = let b = shape-bounds s in omega arith
 
--- so it says the record's rule
+-- so it is read back, where its fields are bytes
+pub key-record : (r : JobRecord) → r .kind < 256 → r .second < 256 → r .third < 256 → recordOfKey (sortKey r) ≡ r
+key-record r k s t = record-path _ _ (omega arith) (omega arith) (omega arith) (omega arith)
+
+-- and says the record's rule
 key-says : {r : JobRecord} → RuleShape r → ruleOfKey (sortKey r) ≡ ruleOf r
 unfolding ruleOfKey ruleOf
 key-says s = let d = decoded s in rw (d .head, d .kind, d .second, d .third)
@@ -67,17 +72,10 @@ module _ {needed : Bool} {job : List ℕ} (ok : Accepted needed job) where
         sym (getD-take n keys k 0 h) ∙ ap (λ (l : List ℕ). getD l k 0) sorted
         ∙ List·getD-map sortKey (sortedRules (recordsOf job)) k noRecord
 
-    pub keys-fit : (k : ℕ) → k < n → KeyFits (getD keys k 0)
+    keys-fit : (k : ℕ) → k < n → KeyFits (getD keys k 0)
     keys-fit k h =
         let r = getD (sortedRules (recordsOf job)) k noRecord in
         rw (key-at k h) (key-fits (shaped r (member-at noRecord (sortedRules (recordsOf job)) k (omega arith))))
-
-    pub keys-of-rules : (n ≤ 256) × ((k : ℕ) → k < n → KeyFits (getD keys k 0))
-    keys-of-rules = (keys-within, keys-fit)
-
-    pub rules-of-keys : map ruleOfKey (take n keys) ≡ jobOf job .rules
-    unfolding jobOf jobOfRecords
-    rules-of-keys = ap (map ruleOfKey) sorted ∙ keys-say (sortedRules (recordsOf job)) shaped
 
     -- so they are where the first n are lent as a slice
     pub keys-lent : Keys (take (n - 0) keys)
@@ -90,4 +88,5 @@ module _ {needed : Bool} {job : List ℕ} (ok : Accepted needed job) where
         }
 
     pub rules-lent : rulesOfKeys (take (n - 0) keys) ≡ jobOf job .rules
-    rules-lent = rw (sub-zero n) rules-of-keys
+    unfolding jobOf jobOfRecords
+    rules-lent = rw (sub-zero n) (ap rulesOfKeys sorted ∙ keys-say (sortedRules (recordsOf job)) shaped)

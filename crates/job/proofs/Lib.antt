@@ -3,6 +3,7 @@ pub mod Permutation
 pub mod NoRepeat
 pub mod Shapes
 pub mod RuleRecords
+pub mod RecordChecks
 pub mod Sound
 pub mod Accepted
 pub mod SortedRules
@@ -12,6 +13,7 @@ pub mod OrderFree
 pub mod AcceptedFacts
 pub mod Records
 pub mod Bytes
+pub mod InFront
 pub mod Earlier
 pub mod Marks
 pub mod Walk
@@ -20,7 +22,9 @@ pub mod RefusedPlace
 pub mod KeyRules
 pub mod Keys
 pub mod JobChecks
+pub mod CallChecks
 pub mod Clearing
 pub mod Filling
 pub mod GivenTriples
 pub mod Wider
+pub mod SameGrammar

@@ -1,14 +1,16 @@
 -- A refusal by 3 to 7 names a record: its place is below the number of records. Assumes nothing.
 use Rattle.grammar.proofs.Basics.{true, false, Bool, _&&_, cond, not, List, _∷_, [], _++_, ℕ, _<_, _≤_, _+_, _*_, _%_}
-use Rattle.grammar.proofs.Basics.{arith, eqb, ltb, leb, length, length-append, ltb-false, leb-true, cases, and-left}
+use Rattle.grammar.proofs.Basics.{arith, eqb, ltb, leb, length, length-append, eqb-true, leb-true, cases, and-left}
 use Rattle.grammar.proofs.Basics.{and-right}
 use Rattle.job.specs.declared.JobRecord.{JobRecord}
 use Rattle.job.specs.declared.Limits.{Limits}
 use Rattle.job.specs.declared.Checked.{Checked}
 use Rattle.job.specs.Format.{fieldClasses, recordsOf, byteI, byteS}
-use Rattle.job.specs.Check.{countKind, fault, recordPlace, firstFault, missing, checkOf, fullLimits, jobCheck}
+use Rattle.job.specs.Records.{firstFault, lengthCheck, bytesCheck}
+use Rattle.job.specs.Check.{countKind, fault, recordPlace, jobFormat, missing, checkOf, fullLimits, jobCheck}
 use Rattle.job.specs.Show.{partOf, shownPart}
 use Rattle.job.proofs.Records.{records-counted}
+use Rattle.job.proofs.RecordChecks.{length-passed}
 
 -- if the answer is 3 to 7, it names one of the first k records
 abbrev NamesBelow : ℕ → Checked → Type 0
@@ -19,12 +21,17 @@ either true p q = p
 either false p q = q
 
 of-records : (limits : Limits) (seen rs : List JobRecord)
-    → NamesBelow (length seen + length rs) (firstFault fieldClasses limits seen rs)
+    → NamesBelow (length seen + length rs) (firstFault (jobFormat fieldClasses limits) seen rs)
 unfolding firstFault recordPlace
 of-records limits seen [] = omega arith
 of-records limits seen (r ∷ rs) =
     either (eqb (fault fieldClasses limits seen r) 0)
     (λ h k. omega (arith, of-records limits (seen ++ (r ∷ [])) rs h k, length-append seen (r ∷ []))) (omega arith)
+
+of-length : (k most size n : ℕ) → NamesBelow k (lengthCheck most size n)
+unfolding lengthCheck
+of-length k most size n =
+    either (ltb most n) (omega arith) (either (not (eqb (n % size) 0)) (omega arith) (omega arith))
 
 of-missing : (n : ℕ) (needed : Bool) (rs : List JobRecord) → NamesBelow n (missing needed rs)
 unfolding missing
@@ -37,17 +44,19 @@ module _ (limits : Limits) (needed : Bool) (job : List ℕ)
     (h : 3 ≤ checkOf fieldClasses limits needed job .number)
     (k : checkOf fieldClasses limits needed job .number ≤ 7) where
   not-long : length job ≤ 16384
-  unfolding checkOf
-  not-long = cases (ltb 16384 (length job)) (λ t. omega (arith, rw t at h)) (ltb-false 16384 (length job))
+  unfolding checkOf bytesCheck
+  not-long =
+      cases (eqb (lengthCheck 16384 4 (length job) .number) 0)
+      (λ t. length-passed 16384 4 (length job) (eqb-true _ _ t) .0)
+      (λ t. absurd (omega (arith, of-length 0 16384 4 (length job) (rw (t, t) at h) (rw (t, t) at k))))
 
   named : checkOf fieldClasses limits needed job .place < length (recordsOf job)
-  unfolding checkOf
+  unfolding checkOf bytesCheck
   named =
       let rs = recordsOf job in
-      either (ltb 16384 (length job)) (omega arith)
-      (either (not (eqb (length job % 4) 0)) (omega arith)
-      (either (eqb (firstFault fieldClasses limits [] rs .number) 0) (of-missing (length rs) needed rs)
-      (λ h k. omega (arith, of-records limits [] rs h k))))
+      either (eqb (bytesCheck (jobFormat fieldClasses limits) job .number) 0) (of-missing (length rs) needed rs)
+      (either (eqb (lengthCheck 16384 4 (length job) .number) 0) (λ h k. omega (arith, of-records limits [] rs h k))
+      (of-length (length rs) 16384 4 (length job)))
       h k
 
   record-within : 4 * checkOf fieldClasses limits needed job .place + 4 ≤ length job

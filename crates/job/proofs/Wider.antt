@@ -1,12 +1,12 @@
 -- A table within a wider one: a record whose fields fit the first fit the second, so a record has another fault by the
 -- second only where it is refused by 4 by the first. Assumes nothing.
-use Rattle.grammar.proofs.Basics.{_≡_, refl, true, false, Bool, cond, not, List, _∷_, [], _++_, ℕ, suc, zero, arith}
-use Rattle.grammar.proofs.Basics.{eqb, ltb, length, _%_, eq-eqb, ne-eqb, eqb-true, eqb-false, ltb-true, lt-ltb}
-use Rattle.grammar.proofs.Basics.{not-false, cases}
+use Rattle.grammar.proofs.Basics.{_≡_, refl, List, _∷_, [], _++_, suc, zero, arith, eqb, length, eqb-true, ltb-true}
+use Rattle.grammar.proofs.Basics.{lt-ltb, not-false, cases}
 use Rattle.job.specs.declared.JobRecord.{JobRecord}
 use Rattle.job.specs.declared.Limits.{Limits}
-use Rattle.job.specs.Format.{ClassTable, recordsOf, rowOf, classAt, inClass, badField}
-use Rattle.job.specs.Check.{fault, firstFault, missing, checkOf}
+use Rattle.job.specs.Format.{ClassTable, recordsOf, rowOf, badField}
+use Rattle.job.specs.Records.{firstFault, lengthCheck, bytesCheck}
+use Rattle.job.specs.Check.{fault, jobFormat, checkOf}
 use Rattle.job.specs.Theorems.WiderClasses.{Within, PairsWidened, WiderChecks}
 use Rattle.job.proofs.Shapes.{test-passed}
 
@@ -42,8 +42,8 @@ module _ (narrow wide : ClassTable) (within : Within narrow wide) (limits : Limi
       (λ u. let e = eqb-true (badField narrow r) 0 u in rw (t, e, fits-wider r e))
       (λ u. absurd (n (rw (t, u)))))
 
-  first-wider : (seen rs : List JobRecord) → (firstFault narrow limits seen rs .number ≡ 4 → ⊥) →
-      firstFault wide limits seen rs ≡ firstFault narrow limits seen rs
+  first-wider : (seen rs : List JobRecord) → (firstFault (jobFormat narrow limits) seen rs .number ≡ 4 → ⊥) →
+      firstFault (jobFormat wide limits) seen rs ≡ firstFault (jobFormat narrow limits) seen rs
   unfolding firstFault
   first-wider seen [] n = refl
   first-wider seen (r ∷ rs) n =
@@ -55,12 +55,12 @@ module _ (narrow wide : ClassTable) (within : Within narrow wide) (limits : Limi
       (λ t. rw (fault-wider seen r (rw t at n), t))
 
 pub wider-checks : WiderChecks
-unfolding checkOf
+unfolding checkOf bytesCheck
 wider-checks narrow wide within limits job n needed =
-    cases (ltb 16384 (length job)) (λ t. rw t)
-    (λ t. cases (not (eqb (length job % 4) 0)) (λ u. rw (t, u))
-    (λ u.
+    cases (eqb (lengthCheck 16384 4 (length job) .number) 0)
+    (λ t.
     let rs = recordsOf job in
-    let first = firstFault narrow limits [] rs in
-    let unrefused : first .number ≡ 4 → ⊥ = λ e. n (rw (t, u, e)) in
-    rw (t, u, first-wider narrow wide within limits [] rs unrefused)))
+    let first = firstFault (jobFormat narrow limits) [] rs in
+    let unrefused : first .number ≡ 4 → ⊥ = λ e. n (rw (t, e)) in
+    rw (t, first-wider narrow wide within limits [] rs unrefused))
+    (λ t. rw t)

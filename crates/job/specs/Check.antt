@@ -1,35 +1,40 @@
 -- Refused calls: short buffers, 10 and 13, and the checks of a job's bytes, 1 to 9. Assumes nothing.
-use Prim.Native.Nat.{ℕ, _+_, _*_, _/_, _%_}
+use Prim.Native.Nat.{ℕ, _+_, _*_}
 use mathlib.Core.Bool.{Bool, cond, not, _&&_, _||_}
-use mathlib.Core.List.{List, [], _∷_, _++_}
+use mathlib.Core.List.{List, [], _∷_}
 use lib.Dec.{eqb, ltb, leb}
 use lib.ListN.{length}
 use Rattle.grammar.specs.Counting.{one-if}
 use Rattle.job.specs.declared.JobRecord.{JobRecord}
 use Rattle.job.specs.declared.Limits.{Limits}
+use Rattle.job.specs.declared.Level.{Level}
+use Rattle.job.specs.declared.Level.the-variants.{Full}
 use Rattle.job.specs.declared.Checked.{Checked}
 use Rattle.job.specs.Format.{ClassTable, fieldClasses, recordsOf, rowOf, badField, isRule, has, byteI, byteS}
+use Rattle.job.specs.Records.{RecordFormat, bytesCheck}
+pub use Rattle.job.specs.Records.{refused, accepted, orElse}
 
 -- The job: at most 256 rules
 abbrev pub fullLimits : Limits
 fullLimits = record { rules = 256 }
 
--- a refusal: the number returned and the place; number 0 and place 0 where nothing is refused
-abbrev pub refused : ℕ → ℕ → Checked
-refused n p = record { number = n; place = p }
+-- the limits that go with a level
+abbrev pub limitsOf : Level → Limits
+limitsOf Full = fullLimits
 
-abbrev pub accepted : Checked
-accepted = refused 0 0
+-- Refused calls, 10: a lent buffer that is too short, by its length, the length needed and its place
+abbrev pub shortBuffer : ℕ → ℕ → ℕ → Checked
+shortBuffer long needed place = cond (ltb long needed) (refused 10 place) accepted
 
--- Refused calls, 10: a lent buffer that is too short, by its place: 1 table, 2 reasons, 3 codes
+-- the places: 1 table, 2 reasons, 3 codes
 abbrev pub shortTable : List ℕ → Checked
-shortTable table = cond (ltb (length table) 65536) (refused 10 1) accepted
+shortTable table = shortBuffer (length table) 65536 1
 
 abbrev pub shortReasons : List ℕ → Checked
-shortReasons reasons = cond (ltb (length reasons) 32768) (refused 10 2) accepted
+shortReasons reasons = shortBuffer (length reasons) 32768 2
 
 abbrev pub shortCodes : List ℕ → Checked
-shortCodes codes = cond (ltb (length codes) 64) (refused 10 3) accepted
+shortCodes codes = shortBuffer (length codes) 64 3
 
 -- Refused calls, 13, where records are written: the buffer is shorter than they are. By how many they are and how long
 -- the buffer is.
@@ -65,12 +70,10 @@ fault classes limits seen r =
 unfoldable pub recordPlace : ℕ → ℕ → JobRecord → ℕ
 recordPlace number index r = index
 
--- the first record that is refused, after those seen
-unfoldable pub firstFault : ClassTable → Limits → List JobRecord → List JobRecord → Checked
-firstFault classes limits seen [] = accepted
-firstFault classes limits seen (r ∷ rs) =
-    cond (eqb (fault classes limits seen r) 0) (firstFault classes limits (seen ++ (r ∷ [])) rs)
-    (refused (fault classes limits seen r) (recordPlace (fault classes limits seen r) (length seen) r))
+-- The job: four bytes a record, at most 16,384 of them, checked by a table of classes and limits
+abbrev pub jobFormat : ClassTable → Limits → RecordFormat JobRecord
+jobFormat classes limits =
+    record { size = 4; most = 16384; read = recordsOf; fault = fault classes limits; place = recordPlace }
 
 -- Refused calls, 8 and 9, on records of which none is refused: no S, and no I where one is needed
 unfoldable pub missing : Bool → List JobRecord → Checked
@@ -78,21 +81,18 @@ missing needed rs =
     cond (eqb (countKind byteS rs) 0) (refused 8 (length rs))
     (cond (needed && eqb (countKind byteI rs) 0) (refused 9 (length rs)) accepted)
 
--- the second where the first refuses nothing
-abbrev pub orElse : Checked → Checked → Checked
-orElse c d = cond (eqb (c .number) 0) d c
-
 -- checks of a job, by whether an I is needed and by the job's bytes
 abbrev pub Checks : Type 0
 Checks = Bool → List ℕ → Checked
 
--- Refused calls: 2 comes first, then 1, then the records, by a table of classes and limits
+-- Refused calls: 1 to 7 come first, then 8 and 9, by a table of classes and limits
 unfoldable pub checkOf : ClassTable → Limits → Checks
-checkOf classes limits needed job =
-    cond (ltb 16384 (length job)) (refused 2 (length job))
-    (cond (not (eqb (length job % 4) 0)) (refused 1 (length job / 4))
-    (orElse (firstFault classes limits [] (recordsOf job)) (missing needed (recordsOf job))))
+checkOf classes limits needed job = orElse (bytesCheck (jobFormat classes limits) job) (missing needed (recordsOf job))
 
--- Refused calls, 1 to 9: by the table and the limits of The job
+-- Refused calls, 1 to 9: by the table of The job and the limits of a level
+abbrev pub levelCheck : Level → Checks
+levelCheck level = checkOf fieldClasses (limitsOf level)
+
+-- and by the limits of The job
 abbrev pub jobCheck : Checks
-jobCheck = checkOf fieldClasses fullLimits
+jobCheck = levelCheck Full

@@ -1,10 +1,10 @@
 pub mod Format
+pub mod Records
 pub mod Check
 pub mod Accepted
 pub mod Job
 pub mod Show
 pub mod Order
-pub mod Clear
 pub mod Written
 pub mod Inside
 pub mod Theorems

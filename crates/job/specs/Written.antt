@@ -7,3 +7,7 @@ unfoldable pub written : (ℕ → ℕ) → ℕ → ℕ → List ℕ → List ℕ
 written f i zero xs = xs
 written f i (suc n) [] = []
 written f i (suc n) (x ∷ xs) = f i ∷ written f (suc i) n xs
+
+-- the first n numbers become 0, the rest stay
+unfoldable pub cleared : ℕ → List ℕ → List ℕ
+cleared n xs = written (λ i. 0) 0 n xs

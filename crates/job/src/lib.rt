@@ -38,7 +38,7 @@ pub struct JobRecord {
 }
 
 // A rule as its sort key has it: the head, the kind byte and the other two fields.
-pub struct Rule {
+pub struct RuleFields {
     pub head: u8,
     pub kind: u8,
     pub second: u8,
@@ -56,6 +56,11 @@ pub enum FieldClass {
 // How many rules a job may have.
 pub struct Limits {
     pub rules: usize,
+}
+
+// What a key is sold with, which says what the limits of a call are. Today every key has the full limits.
+pub enum Level {
+    Full,
 }
 
 // The number of a refusal and its place; 0 and 0 where nothing is refused.

@@ -1,7 +1,7 @@
 // What an accepted job is, what the order of its records does not change, and what ranks and the number of states
 // mean. Each theorem is carried by a function.
 ghost use Rattle.job.specs.Theorems.InRange.{CheckAccepts, AcceptedInRange};
-ghost use Rattle.job.specs.Theorems.OrderFree.{AcceptedAlike, SameJob};
+ghost use Rattle.job.specs.Theorems.OrderFree.{AcceptedAlike, SameJob, SameRules};
 ghost use Rattle.job.specs.Theorems.RankCounts.{RankCounts};
 ghost use Rattle.job.specs.Theorems.StateCount.{StateCount};
 ghost use Rattle.job.specs.Theorems.WiderClasses.{PairsWidened, WiderChecks};
@@ -24,6 +24,11 @@ pub fn accepted_alike()
 // Two accepted jobs with the same records have the same canonical job.
 pub fn same_job()
     ensures theorem { λ r. ⌜ SameJob ⌝ }
+{}
+
+// Two accepted jobs with the same rule and S records say the same rules and start symbol.
+pub fn same_rules()
+    ensures theorem { λ r. ⌜ SameRules ⌝ }
 {}
 
 // A rule's rank is the number of rules that sort before it.

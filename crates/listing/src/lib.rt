@@ -15,9 +15,10 @@ ghost use lib.ListN.{length, take};
 ghost use lib.Seq.{sets};
 ghost use Rattle.job.specs.Inside.Keys.{ruleOfKey};
 ghost use Rattle.machine.specs.Table.{tableSize, reasonsSize, symbolAt, each};
-ghost use Rattle.forms.specs.Listing.{reasonAt, premises, ruleBytes, reasonBytes, recordOf, unmarked};
+ghost use Rattle.forms.specs.Listing.{reasonAt, premises, ruleBytes, reasonBytes, listingRecord, unmarked};
 ghost use Rattle.forms.specs.Grounded.{DonePlace};
-ghost use Rattle.forms.specs.Inside.ListingParts.{rulesOf, fiveBytes, HasReason, CanList, RoomFor, CanMove};
+ghost use Rattle.forms.specs.Inside.ListingParts.{fiveBytes, HasReason, CanList, RoomFor, CanMove};
+ghost use Rattle.job.specs.Inside.Keys.{rulesOfKeys};
 ghost use Rattle.forms.specs.Inside.ListingParts.{CanVisit, CanListAll, passOf, walkingOf, firstUnlisted};
 ghost use Rattle.forms.specs.Inside.ListingParts.{listOne, visitOne, moved, passOver};
 
@@ -77,8 +78,8 @@ fn rule_bytes(key: u32, middle: u8) -> ReasonBytes
 
 // The bytes of the reason of a done transition in its record.
 fn reason_bytes(reasons: &[u32], keys: &[u32], p: usize) -> ReasonBytes
-    requires fits { ⌜ HasReason (rulesOf (now keys)) (now reasons) p ⌝ }
-    ensures bytes { λ r. ⌜ fiveBytes r ≡ reasonBytes (rulesOf (now (keys .entry))) (now (reasons .entry)) p ⌝ }
+    requires fits { ⌜ HasReason (rulesOfKeys (now keys)) (now reasons) p ⌝ }
+    ensures bytes { λ r. ⌜ fiveBytes r ≡ reasonBytes (rulesOfKeys (now (keys .entry))) (now (reasons .entry)) p ⌝ }
 {
     let reason = reason_at(reasons, p);
     if reason == GIVEN_REASON {
@@ -110,9 +111,9 @@ fn first_unlisted(table: &[u8], a: usize, b: usize) -> usize
 
 // The first premise of a done transition that is not listed, 65,536 where there is none.
 fn next_premise(table: &[u8], reasons: &[u32], keys: &[u32], p: usize) -> usize
-    requires able { ⌜ CanList (rulesOf (now keys)) (now reasons) (now table) × DonePlace (now table) p ⌝ }
+    requires able { ⌜ CanList (rulesOfKeys (now keys)) (now reasons) (now table) × DonePlace (now table) p ⌝ }
     ensures next { λ r. ⌜ r
-        ≡ firstUnlisted (now (table .entry)) (premises (rulesOf (now (keys .entry))) (now (reasons .entry)) p) ⌝ }
+        ≡ firstUnlisted (now (table .entry)) (premises (rulesOfKeys (now (keys .entry))) (now (reasons .entry)) p) ⌝ }
 {
     let why = reason_bytes(reasons, keys, p);
     let from = p / STATE_PLACES;
@@ -136,10 +137,10 @@ fn next_premise(table: &[u8], reasons: &[u32], keys: &[u32], p: usize) -> usize
 
 // Writes the record of a done transition.
 fn write_record(reasons: &[u32], keys: &[u32], p: usize, listing: &mut [u8], at: usize)
-    requires fits { ⌜ HasReason (rulesOf (now keys)) (now reasons) p ⌝ }
+    requires fits { ⌜ HasReason (rulesOfKeys (now keys)) (now reasons) p ⌝ }
     requires room { ⌜ at + 8 ≤ length (now listing) ⌝ }
     ensures written { λ _. ⌜ now (listing .exit)
-        ≡ sets (now (listing .entry)) at (recordOf (rulesOf (now (keys .entry))) (now (reasons .entry)) p) ⌝ }
+        ≡ sets (now (listing .entry)) at (listingRecord (rulesOfKeys (now (keys .entry))) (now (reasons .entry)) p) ⌝ }
 {
     let why = reason_bytes(reasons, keys, p);
     listing[at] = (p / STATE_PLACES) as u8;
@@ -164,10 +165,10 @@ fn list_one(
     p: usize,
 ) -> usize
     requires fits { ⌜ (p < length (now table)) × (count < tableSize)
-        × HasReason (rulesOf (now keys)) (now reasons) p ⌝ }
+        × HasReason (rulesOfKeys (now keys)) (now reasons) p ⌝ }
     requires room { ⌜ RoomFor write (count + 1) (now listing) ⌝ }
     ensures listed { λ r. ⌜ passOf (now (table .exit)) r (now (listing .exit))
-        ≡ listOne write (rulesOf (now (keys .entry))) (now (reasons .entry)) p
+        ≡ listOne write (rulesOfKeys (now (keys .entry))) (now (reasons .entry)) p
         (passOf (now (table .entry)) count (now (listing .entry))) ⌝ }
 {
     table[p] = 3;
@@ -188,10 +189,10 @@ fn walk_step(
     write: bool,
     w: PathWalk,
 ) -> PathWalk
-    requires able { ⌜ CanMove write (rulesOf (now keys)) (now reasons)
+    requires able { ⌜ CanMove write (rulesOfKeys (now keys)) (now reasons)
         (walkingOf (now table) (w .count) (now listing) (now path) (w .depth)) ⌝ }
     ensures moved { λ r. ⌜ walkingOf (now (table .exit)) (r .count) (now (listing .exit)) (now (path .exit)) (r .depth)
-        ≡ moved write (rulesOf (now (keys .entry))) (now (reasons .entry))
+        ≡ moved write (rulesOfKeys (now (keys .entry))) (now (reasons .entry))
         (walkingOf (now (table .entry)) (w .count) (now (listing .entry)) (now (path .entry)) (w .depth)) ⌝ }
 {
     let depth = w.depth;
@@ -226,10 +227,10 @@ fn visit(
     count: usize,
     p: usize,
 ) -> usize
-    requires able { ⌜ CanVisit write (rulesOf (now keys)) (now reasons) (now path) p
+    requires able { ⌜ CanVisit write (rulesOfKeys (now keys)) (now reasons) (now path) p
         (passOf (now table) count (now listing)) ⌝ }
     ensures pass { λ r. ⌜ passOf (now (table .exit)) r (now (listing .exit))
-        ≡ visitOne write (rulesOf (now (keys .entry))) (now (reasons .entry)) p
+        ≡ visitOne write (rulesOfKeys (now (keys .entry))) (now (reasons .entry)) p
         (passOf (now (table .entry)) count (now (listing .entry))) ⌝ }
     ensures path { λ _. ⌜ length (now (path .exit)) ≡ reasonsSize ⌝ }
 {
@@ -258,10 +259,10 @@ pub fn list_all(
     write: bool,
 ) -> usize
     requires sequence { ⌜ (n ≤ 64) × (n ≤ length (now route)) ⌝ }
-    requires able { ⌜ CanListAll write (rulesOf (now keys)) (now reasons) (now table) (take n (now route))
+    requires able { ⌜ CanListAll write (rulesOfKeys (now keys)) (now reasons) (now table) (take n (now route))
         (now listing) ⌝ }
     ensures listed { λ r. ⌜ passOf (now (table .exit)) r (now (listing .exit))
-        ≡ passOver write (rulesOf (now (keys .entry))) (now (reasons .entry)) (now (table .entry))
+        ≡ passOver write (rulesOfKeys (now (keys .entry))) (now (reasons .entry)) (now (table .entry))
         (take n (now (route .entry))) (now (listing .entry)) ⌝ }
 {
     let mut path = [0u16; job::REASON_NUMBERS];

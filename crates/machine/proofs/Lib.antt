@@ -4,5 +4,5 @@ pub mod Growing
 pub mod Starts
 pub mod Reasons
 pub mod Offers
-pub mod Indexes
+pub mod Users
 pub mod MachineChecks

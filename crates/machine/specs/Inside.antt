@@ -1,5 +1,5 @@
 -- Contracts of inner functions.
-pub mod Index
+pub mod Users
 pub mod Offers
 pub mod Runs
 pub mod StartParts

@@ -32,8 +32,8 @@ pub record KeepsRest (before after : Lent) : Type 0 where
   pub rest-reasons : drop reasonsSize (after .reasons) ≡ drop reasonsSize (before .reasons)
 
 -- the place of the transition (q, X, r) in a table, and the three parts of a place
-abbrev pub place : ℕ → ℕ → ℕ → ℕ
-place q X r = q * 2048 + X * 32 + r
+abbrev pub tablePlace : ℕ → ℕ → ℕ → ℕ
+tablePlace q X r = q * 2048 + X * 32 + r
 
 abbrev pub fromState : ℕ → ℕ
 fromState p = p / 2048
@@ -90,7 +90,7 @@ isDoneAt v p = saysDone (v p)
 
 -- the transition is done
 unfoldable pub doneIn : Statuses → ℕ → ℕ → ℕ → Bool
-doneIn v q X r = isDoneAt v (place q X r)
+doneIn v q X r = isDoneAt v (tablePlace q X r)
 
 -- the number of done places
 unfoldable pub doneCount : Statuses → ℕ

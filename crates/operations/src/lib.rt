@@ -1,10 +1,10 @@
 // The operations. No call needs anything of its input: whatever is wrong with it is refused, with a number and a
 // place.
-use binarize::Binarized;
 use bit_machine::Counted;
-use clean::Cleaned;
+use copies::Cleaned;
 use forms::Asked;
 use forms::Explained;
+use long_jobs::Binarized;
 use machine::Advanced;
 use machine::Started;
 use verdicts::Verdicts;
@@ -14,8 +14,8 @@ ghost use Rattle.machine.specs.Operations.{startOf, startLeaves, advanceOf, adv
 ghost use Rattle.machine.specs.Table.{lentOf};
 ghost use Rattle.forms.specs.Operations.{askOf, askBitsOf, explainOf, explainLeaves};
 ghost use Rattle.verdicts.specs.Operation.{verdictsOf, verdictsLeave};
-ghost use Rattle.binarize.specs.Operation.{binarizeOf, binarizeLeaves};
-ghost use Rattle.clean.specs.Operation.{cleanOf, cleanLeaves};
+ghost use Rattle.long_jobs.specs.Operation.{binarizeOf, binarizeLeaves};
+ghost use Rattle.copies.specs.Operation.{cleanOf, cleanLeaves};
 ghost use Rattle.bit_machine.specs.Operations.{startBitsOf, advanceBitsOf, doneCountOf};
 
 // Writes the table and the reasons that the job starts from, and answers its number of states.
@@ -63,7 +63,7 @@ pub fn verdicts(job: &[u8], table: &mut [u8], codes: &mut [u8]) -> Verdicts
     ensures left { λ r. ⌜ verdictsLeave r (now (table .exit)) (now (codes .exit))
         ≡ verdictsOf (now (job .entry)) (now (table .entry)) (now (codes .entry)) ⌝ }
 {
-    verdicts::operation::verdicts(job, table, codes)
+    judging::operation::verdicts(job, table, codes)
 }
 
 // The four bytes of the record that the job is refused for by 3 to 7, as a part of the job; else the empty part.
@@ -74,10 +74,10 @@ pub fn show_refused(job: &[u8]) -> &[u8]
 }
 
 // Writes a text whose rules have bodies of up to eight symbols as an ordinary job, and answers its number of records.
-pub fn binarize(text: &[u8], job: &mut [u8]) -> Binarized
-    ensures left { λ r. ⌜ binarizeLeaves r (now (job .exit)) ≡ binarizeOf (now (text .entry)) (now (job .entry)) ⌝ }
+pub fn binarize(source: &[u8], job: &mut [u8]) -> Binarized
+    ensures left { λ r. ⌜ binarizeLeaves r (now (job .exit)) ≡ binarizeOf (now (source .entry)) (now (job .entry)) ⌝ }
 {
-    binarize::operation::binarize(text, job)
+    binarize::operation::binarize(source, job)
 }
 
 // Writes the clean copy of a job, its useful rules with their variables numbered from 0, and answers its number of
@@ -116,5 +116,5 @@ pub fn ask_bits(job: &[u8], bits: &[u8], form: &[u8]) -> Asked
 pub fn done_count(bits: &[u8]) -> Counted
     ensures counted { λ r. ⌜ r ≡ doneCountOf (now (bits .entry)) ⌝ }
 {
-    bits::count::done_count(bits)
+    bit_table::operations::done_count(bits)
 }

@@ -8,12 +8,12 @@ use Rattle.spelling.specs.Lines.{codeLine}
 use Rattle.spelling.specs.Records.{recordLine}
 use Rattle.spelling.proofs.LineLengths.{either, all, refused-short, number-short, answer-short, code-short}
 use Rattle.spelling.proofs.LineLengths.{record-short}
-use Rattle.printing.specs.Texts.{reportText, codesText, mostRecords, shownRecords, explainText}
-use Rattle.printing.specs.Theorems.Lengths.{TextsFit}
+use Rattle.printing.specs.Outputs.{reportOutput, codesOutput, mostRecords, shownRecords, explainOutput}
+use Rattle.printing.specs.Theorems.Lengths.{OutputsFit}
 
-pub texts-fit : TextsFit
-unfolding reportText codesText explainText shownRecords
-texts-fit =
+pub outputs-fit : OutputsFit
+unfolding reportOutput codesOutput explainOutput shownRecords
+outputs-fit =
     record {
       report = λ r. either (eqb (r .number) 0) _ _ 117
           (simp length-append

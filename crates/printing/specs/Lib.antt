@@ -1,3 +1,3 @@
-pub mod Texts
+pub mod Outputs
 pub mod Written
 pub mod Theorems

@@ -1,6 +1,6 @@
 // The very bytes that the programs print, written into a lent buffer.
 pub mod operations;
-pub mod texts;
+pub mod outputs;
 pub mod theorems;
 
 // What the report says of a job: a refusal's number and place, 0 and 0 where nothing is refused, and the six values.

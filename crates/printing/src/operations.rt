@@ -1,10 +1,10 @@
-// The texts of the programs, written into a lent buffer, for every input. A text is counted first, in a part of the
+// The outputs of the programs, written into a lent buffer, for every input. A text is counted first, in a part of the
 // buffer that has no bytes, so that a buffer that is too short for it is left as it was.
 use crate::Report;
 use crate::Written;
-use crate::texts;
+use crate::outputs;
 ghost use mathlib.Core.Path.{_≡_};
-ghost use Rattle.printing.specs.Texts.{reportText, codesText, explainText};
+ghost use Rattle.printing.specs.Outputs.{reportOutput, codesOutput, explainOutput};
 ghost use Rattle.printing.specs.Written.{writtenOf};
 
 // Refused: so many bytes are needed.
@@ -19,39 +19,39 @@ fn too_short(needed: usize) -> Written
 }
 
 // Writes the report's text.
-pub fn report_text(report: Report, out: &mut [u8]) -> Written
+pub fn report_output(report: Report, out: &mut [u8]) -> Written
     ensures written { λ r. ⌜ record { answer = r; out = now (out .exit) }
-        ≡ writtenOf (reportText report) (now (out .entry)) ⌝ }
+        ≡ writtenOf (reportOutput report) (now (out .entry)) ⌝ }
 {
-    let needed = texts::report_lines(&mut out[..0], report);
+    let needed = outputs::report_lines(&mut out[..0], report);
     if out.len() < needed {
         return too_short(needed);
     }
     Written {
         number: 0,
         place: 0,
-        bytes: texts::report_lines(out, report),
+        bytes: outputs::report_lines(out, report),
     }
 }
 
 // Writes the text of the codes.
-pub fn codes_text(number: usize, place: usize, codes: &[u8], out: &mut [u8]) -> Written
+pub fn codes_output(number: usize, place: usize, codes: &[u8], out: &mut [u8]) -> Written
     ensures written { λ r. ⌜ record { answer = r; out = now (out .exit) }
-        ≡ writtenOf (codesText number place (now (codes .entry))) (now (out .entry)) ⌝ }
+        ≡ writtenOf (codesOutput number place (now (codes .entry))) (now (out .entry)) ⌝ }
 {
-    let needed = texts::codes_lines(&mut out[..0], number, place, codes);
+    let needed = outputs::codes_lines(&mut out[..0], number, place, codes);
     if out.len() < needed {
         return too_short(needed);
     }
     Written {
         number: 0,
         place: 0,
-        bytes: texts::codes_lines(out, number, place, codes),
+        bytes: outputs::codes_lines(out, number, place, codes),
     }
 }
 
 // Writes the text of an explanation.
-pub fn explain_text(
+pub fn explain_output(
     number: usize,
     place: usize,
     accepted: bool,
@@ -60,15 +60,15 @@ pub fn explain_text(
     out: &mut [u8],
 ) -> Written
     ensures written { λ r. ⌜ record { answer = r; out = now (out .exit) }
-        ≡ writtenOf (explainText number place accepted records (now (listing .entry))) (now (out .entry)) ⌝ }
+        ≡ writtenOf (explainOutput number place accepted records (now (listing .entry))) (now (out .entry)) ⌝ }
 {
-    let needed = texts::explain_lines(&mut out[..0], number, place, accepted, records, listing);
+    let needed = outputs::explain_lines(&mut out[..0], number, place, accepted, records, listing);
     if out.len() < needed {
         return too_short(needed);
     }
     Written {
         number: 0,
         place: 0,
-        bytes: texts::explain_lines(out, number, place, accepted, records, listing),
+        bytes: outputs::explain_lines(out, number, place, accepted, records, listing),
     }
 }

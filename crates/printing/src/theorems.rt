@@ -1,13 +1,13 @@
-// What the definitions of the texts are proved to mean, each carried by a function with no body.
+// What the definitions of the outputs are proved to mean, each carried by a function with no body.
 ghost use Rattle.printing.specs.Theorems.Printed.{AsPrinted};
-ghost use Rattle.printing.specs.Theorems.Lengths.{TextsFit};
+ghost use Rattle.printing.specs.Theorems.Lengths.{OutputsFit};
 
-// Some texts as they are printed.
+// Some outputs as they are printed.
 pub fn as_printed()
     ensures theorem { λ _. ⌜ AsPrinted ⌝ }
 {}
 
 // How long a text can be.
-pub fn texts_fit()
-    ensures theorem { λ _. ⌜ TextsFit ⌝ }
+pub fn outputs_fit()
+    ensures theorem { λ _. ⌜ OutputsFit ⌝ }
 {}

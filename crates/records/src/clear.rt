@@ -3,7 +3,7 @@ use job::TABLE_BYTES;
 ghost use mathlib.Core.Path.{_≡_};
 ghost use Prim.Native.Nat.{_≤_};
 ghost use lib.ListN.{length};
-ghost use Rattle.job.specs.Clear.{cleared};
+ghost use Rattle.job.specs.Written.{cleared};
 
 // Makes the first n bytes 0.
 pub fn clear_front(table: &mut [u8], n: usize)

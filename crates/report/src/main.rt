@@ -5,7 +5,7 @@
 const INPUT_BYTES: usize = 16385;
 
 // The most bytes that a report's text has.
-const TEXT_BYTES: usize = 117;
+const OUTPUT_BYTES: usize = 117;
 
 // Prints the report on a job.
 fn report(job: &[u8]) {
@@ -13,8 +13,8 @@ fn report(job: &[u8]) {
     let mut reasons = [0u32; job::REASON_NUMBERS];
     let mut codes = [0u8; job::CODE_BYTES];
     let report = reporting::operation::report(job, &mut table, &mut reasons, &mut codes);
-    let mut out = [0u8; TEXT_BYTES];
-    let written = printing::operations::report_text(report, &mut out);
+    let mut out = [0u8; OUTPUT_BYTES];
+    let written = printing::operations::report_output(report, &mut out);
     console::write_output(&out, written.bytes);
 }
 

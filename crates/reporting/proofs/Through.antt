@@ -1,21 +1,19 @@
 -- A report that is not refused runs through: start and the steps keep the lengths of what is lent, so the checks of
 -- each call pass as those of the report do. Assumes nothing.
-use Rattle.grammar.proofs.Basics.{_≡_, refl, _∙_, sym, ap, true, false, Bool, List, _∷_, [], ℕ, zero, suc, _≤_, arith, ltb, length}
-use Rattle.grammar.proofs.Basics.{eq-eqb, ltb-false, le-ltb}
+use Rattle.grammar.proofs.Basics.{_≡_, refl, _∙_, sym, ap, true, false, Bool, List, _∷_, [], ℕ, zero, suc, _≤_, arith, length}
+use Rattle.grammar.proofs.Basics.{eq-eqb, le-ltb}
 use Rattle.job.specs.declared.Checked.{Checked}
-use Rattle.job.specs.Check.{jobCheck, orElse, shortTable, shortReasons, shortCodes}
 use Rattle.job.specs.Accepted.{Accepted}
 use Rattle.job.specs.Job.{fieldOf, jobOf}
-use Rattle.job.proofs.Accepted.{number-accepted, accepted-check}
+use Rattle.job.proofs.Accepted.{accepted-check}
 use Rattle.job.specs.Format.{byteS, recordsOf}
 use Rattle.job.proofs.AcceptedFacts.{start-below, job-start}
-use Rattle.job.proofs.JobChecks.{both-pass, not-short}
+use Rattle.job.proofs.CallChecks.{both-pass, long-enough, call-passed}
 use Rattle.machine.specs.Table.{Lent, lentOf, tableSize, reasonsSize, statuses}
 use Rattle.machine.specs.Step.{isFinished}
 use Rattle.machine.specs.Start.{started}
 use Rattle.machine.specs.Advance.{steps, stepsMade, meetingsMade}
-use Rattle.machine.specs.Operations.{machineCheck, startOf, startBy, startLeaves, advanceOf, advanceBy, advanceLeaves}
-use Rattle.machine.proofs.MachineChecks.{long-enough}
+use Rattle.machine.specs.Operations.{machineCheck, machineCheckBy, startOf, startBy, startLeaves, advanceOf, advanceBy, advanceLeaves}
 use Rattle.machine.proofs.Starts.StartLaws.{started-length, started-length-reasons}
 use Rattle.machine.proofs.Steps.StepLaws.{steps-long, finishes}
 use Rattle.forms.specs.Operations.{firstOver, formCheck, askCheck, askCheckBy, acceptsBy, acceptsOn, askOf, askBy}
@@ -24,10 +22,9 @@ use Rattle.bit_machine.specs.BitTable.{bitStatuses}
 use Rattle.forms.specs.Inside.AcceptanceParts.{FormFits}
 use Rattle.forms.specs.Inside.ExplainParts.{BitsSay}
 use Rattle.forms.proofs.AskAnswers.{accepts-alike}
-use Rattle.forms.proofs.FormChecks.{ask-form}
 use Rattle.verdicts.specs.Operation.{VerdictsOutcome, verdictsCheck, verdictsCheckBy, verdictsOn, verdictsOf}
 use Rattle.verdicts.proofs.Outcome.{verdicts-given}
-use Rattle.reporting.specs.Operation.{shortBuffer, reportCheck, reportLeaves, reportOn, runToEnd}
+use Rattle.reporting.specs.Operation.{reportCheck, reportLeaves, reportOn, runToEnd}
 use Rattle.reporting.proofs.Outcome.{composed}
 use Rattle.reporting.specs.Theorems.{RunsThrough}
 
@@ -41,15 +38,14 @@ pub record Passed (job : List ℕ) (m : Lent) (codes : List ℕ) : Type 0 where
 report-passed : (job : List ℕ) (m : Lent) (codes : List ℕ) → reportCheck job m codes .number ≡ 0 → Passed job m codes
 unfolding reportCheck
 report-passed job m codes e =
-    let (short, j) = both-pass (shortBuffer m codes) (jobCheck true job) e in
-    let (a, c) = both-pass (orElse (shortTable (m .table)) (shortReasons (m .reasons))) (shortCodes codes) short in
-    let (t, r) = both-pass (shortTable (m .table)) (shortReasons (m .reasons)) a in
+    let (short, ok) = call-passed _ true job e in
+    let (lent, c) = both-pass _ _ short in
+    let (t, rs) = both-pass _ _ lent in
     record {
-      long = ltb-false (length (m .table)) tableSize (not-short (ltb (length (m .table)) tableSize) 1 t);
-      long-reasons =
-          ltb-false (length (m .reasons)) reasonsSize (not-short (ltb (length (m .reasons)) reasonsSize) 2 r);
-      long-codes = ltb-false (length codes) 64 (not-short (ltb (length codes) 64) 3 c);
-      ok = number-accepted true job j;
+      long = long-enough _ _ _ t;
+      long-reasons = long-enough _ _ _ rs;
+      long-codes = long-enough _ _ _ c;
+      ok = ok;
     }
 
 pub checks-passed : {job : List ℕ} {m : Lent} {codes : List ℕ} {c : Checked} → c ≡ reportCheck job m codes →
@@ -94,13 +90,12 @@ without-need ok =
       few-rules = ok .few-rules;
     }
 
-number-of : {c d : Checked} → c ≡ d → d .number ≡ 0 → c .number ≡ 0
-number-of e z = ap (λ (k : Checked). k .number) e ∙ z
-
 module _ (job : List ℕ) (ok : Accepted true job) where
   machine-passes : (m : Lent) → tableSize ≤ length (m .table) → reasonsSize ≤ length (m .reasons)
       → machineCheck job m .number ≡ 0
-  machine-passes m t r = number-of (sym (long-enough job m t r) ∙ accepted-check ok) refl
+  unfolding machineCheckBy
+  machine-passes m t r =
+      rw (le-ltb (length (m .table)) tableSize t, le-ltb (length (m .reasons)) reasonsSize r, accepted-check ok)
 
   form-passes : formCheck (jobOf job .start ∷ []) .number ≡ 0
   unfolding formCheck firstOver
@@ -113,9 +108,8 @@ module _ (job : List ℕ) (ok : Accepted true job) where
   unfolding askBy askCheckBy
   ask-is table long =
       let form = jobOf job .start ∷ [] in
-      let c = accepted-check ok in
       let z : askCheck job table form .number ≡ 0 =
-      number-of (ask-form (length table) tableSize job form long refl (number-of c refl)) form-passes in
+      rw (le-ltb (length table) tableSize long, accepted-check ok) form-passes in
       rw (eq-eqb (askCheck job table form .number) 0 z)
 
   verdicts-number : (table codes : List ℕ) → tableSize ≤ length table → 64 ≤ length codes →

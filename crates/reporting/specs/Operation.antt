@@ -14,12 +14,12 @@ use Rattle.verdicts.specs.Operation.{VerdictsOutcome, verdictsOf}
 use Rattle.printing.specs.declared.Report.{Report}
 
 -- the first buffer that is too short: table, reasons, codes
-abbrev pub shortBuffer : Lent → List ℕ → Checked
-shortBuffer m codes = orElse (orElse (shortTable (m .table)) (shortReasons (m .reasons))) (shortCodes codes)
+abbrev pub shortLent : Lent → List ℕ → Checked
+shortLent m codes = orElse (orElse (shortTable (m .table)) (shortReasons (m .reasons))) (shortCodes codes)
 
 -- the checks of the report: the buffers, then the job's, with an initial state
 unfoldable pub reportCheck : List ℕ → Lent → List ℕ → Checked
-reportCheck job m codes = orElse (shortBuffer m codes) (jobCheck true job)
+reportCheck job m codes = orElse (shortLent m codes) (jobCheck true job)
 
 -- what the report leaves: the answer, table and reasons, and the codes
 pub record ReportOutcome : Type 0 where

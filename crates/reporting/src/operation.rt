@@ -1,8 +1,9 @@
 // The report, for every input.
 use bits::BITS_BYTES;
+use checks::call;
 use job::CODE_BYTES;
 use job::Checked;
-use job::REASON_NUMBERS;
+use job::Level;
 use job::TABLE_BYTES;
 use printing::Report;
 use transitions::MOST_STEPS;
@@ -16,25 +17,9 @@ fn report_check(job: &[u8], table: &[u8], reasons: &[u32], codes: &[u8]) -> Chec
     ensures checked { λ c. ⌜ c ≡ reportCheck (now (job .entry))
         (lentOf (now (table .entry)) (now (reasons .entry))) (now (codes .entry)) ⌝ }
 {
-    if table.len() < TABLE_BYTES {
-        return Checked {
-            number: 10,
-            place: 1,
-        };
-    }
-    if reasons.len() < REASON_NUMBERS {
-        return Checked {
-            number: 10,
-            place: 2,
-        };
-    }
-    if codes.len() < CODE_BYTES {
-        return Checked {
-            number: 10,
-            place: 3,
-        };
-    }
-    checks::check::check(job, checks::show::full_limits(), true)
+    let lent = call::short_lent(table.len(), TABLE_BYTES, reasons.len());
+    let short = call::or_else(lent, call::short_buffer(codes.len(), CODE_BYTES, 3));
+    call::call_check(short, job, Level::Full, true)
 }
 
 // The report on a refused call.
@@ -66,9 +51,9 @@ pub fn report(job: &[u8], table: &mut [u8], reasons: &mut [u32], codes: &mut [u8
     }
     let mut bits = [0u8; BITS_BYTES];
     let run = byte_table::run::run_from_start(job, &mut bits, table, reasons, MOST_STEPS);
-    let form = [records::lookup::field_of(job, b'S')];
+    let form = [lookup::facts::field_of(job, b'S')];
     let start = asking::acceptance::is_accepted(job, &bits, &form);
-    let judged = verdicts::operation::verdicts(job, table, codes);
+    let judged = judging::operation::verdicts(job, table, codes);
     Report {
         number: 0,
         place: 0,

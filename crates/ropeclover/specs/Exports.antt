@@ -8,8 +8,8 @@ use Rattle.machine.specs.declared.Advanced.{Advanced}
 use Rattle.forms.specs.declared.Asked.{Asked}
 use Rattle.forms.specs.declared.Explained.{Explained}
 use Rattle.verdicts.specs.declared.Verdicts.{Verdicts}
-use Rattle.binarize.specs.declared.Binarized.{Binarized}
-use Rattle.clean.specs.declared.Cleaned.{Cleaned}
+use Rattle.long_jobs.specs.declared.Binarized.{Binarized}
+use Rattle.copies.specs.declared.Cleaned.{Cleaned}
 use Rattle.bit_machine.specs.declared.Counted.{Counted}
 
 abbrev pub startNumbers : Started → List ℕ

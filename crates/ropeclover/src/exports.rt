@@ -11,8 +11,8 @@ ghost use Rattle.machine.specs.Operations.{startOf, advanceOf};
 ghost use Rattle.forms.specs.Operations.{askOf, askBitsOf, explainOf};
 ghost use Rattle.verdicts.specs.Operation.{verdictsOf};
 ghost use Rattle.ropeclover.specs.Exports.{startNumbers, advanceNumbers, askNumbers, explainNumbers};
-ghost use Rattle.binarize.specs.Operation.{binarizeOf};
-ghost use Rattle.clean.specs.Operation.{cleanOf};
+ghost use Rattle.long_jobs.specs.Operation.{binarizeOf};
+ghost use Rattle.copies.specs.Operation.{cleanOf};
 ghost use Rattle.bit_machine.specs.Operations.{startBitsOf, advanceBitsOf, doneCountOf};
 ghost use Rattle.ropeclover.specs.Exports.{verdictsNumbers, showNumbers, binarizeNumbers, cleanNumbers};
 ghost use Rattle.ropeclover.specs.Exports.{countNumbers};
@@ -188,12 +188,12 @@ pub extern "C" fn ropeclover_show(job: &[u8], answer: &mut [u64; 2])
 }
 
 #[no_mangle]
-pub extern "C" fn ropeclover_binarize(text: &[u8], job: &mut [u8], answer: &mut [u64; 3])
+pub extern "C" fn ropeclover_binarize(source: &[u8], job: &mut [u8], answer: &mut [u64; 3])
     ensures answered { λ _. ⌜ now (answer .exit)
-        ≡ binarizeNumbers (binarizeOf (now (text .entry)) (now (job .entry)) .answer) ⌝ }
-    ensures left { λ _. ⌜ now (job .exit) ≡ binarizeOf (now (text .entry)) (now (job .entry)) .job ⌝ }
+        ≡ binarizeNumbers (binarizeOf (now (source .entry)) (now (job .entry)) .answer) ⌝ }
+    ensures left { λ _. ⌜ now (job .exit) ≡ binarizeOf (now (source .entry)) (now (job .entry)) .job ⌝ }
 {
-    let r = operations::binarize(text, job);
+    let r = operations::binarize(source, job);
     write3(answer, r.number as u64, r.place as u64, r.records as u64);
 }
 

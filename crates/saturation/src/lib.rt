@@ -1,6 +1,5 @@
-// Saturation: one step, and a counted number of steps, on a bit table.
+// Saturation: a counted number of steps on a bit table.
 pub mod run;
-pub mod step;
 
 // What a run leaves to say: whether nothing is pending, the steps made and the rise in pair meetings.
 pub struct Ended {

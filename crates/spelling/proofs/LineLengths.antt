@@ -9,7 +9,7 @@ use lib.ListN.{length, getD, length-append}
 use borrow.Author.Tests.{lt-ltb}
 use Rattle.spelling.specs.Words.{ascii, digits, decimal}
 use Rattle.spelling.specs.Lines.{refusedLine, numberLine, answerLine, codeLine, lines}
-use Rattle.spelling.specs.Records.{transitionText, secondText, bodyText, reasonText, byteOf, recordLine}
+use Rattle.spelling.specs.Records.{transitionOutput, secondOutput, bodyOutput, reasonOutput, recordByte, recordLine}
 use Rattle.spelling.proofs.Decimal.{cases, one, more, tenth, decimal-short}
 
 -- a number below 10 ^ k has at most k digits
@@ -22,7 +22,7 @@ few-below (suc k) (suc j) n l =
     (λ e. rw (one (suc j) n e) (omega arith))
     (λ e. rw (more (suc j) n e, length-append) (omega (arith, few-below k j (n / 10) (tenth (suc k) n l))))
 
--- one of two texts
+-- one of two outputs
 pub either : (b : Bool) (s t : List ℕ) (m : ℕ) → length s ≤ m → length t ≤ m → length (cond b s t) ≤ m
 either true s t m l k = l
 either false s t m l k = k
@@ -60,33 +60,33 @@ pub code-short : (X c : ℕ) → X < 64 → c < 256 → length (codeLine X c) �
 unfolding codeLine
 code-short X c l k = simp length-append (omega (arith, symbol-short X l, byte-short c k))
 
-second-short : (kind Z m : ℕ) → Z < 256 → m < 256 → length (secondText kind Z m) ≤ 12
-unfolding secondText
+second-short : (kind Z m : ℕ) → Z < 256 → m < 256 → length (secondOutput kind Z m) ≤ 12
+unfolding secondOutput
 second-short kind Z m l k =
     either (eqb kind 80) _ _ 12 (simp length-append (omega (arith, byte-short Z l, byte-short m k))) (omega arith)
 
-body-short : (kind Y Z m : ℕ) → Y < 256 → Z < 256 → m < 256 → length (bodyText kind Y Z m) ≤ 19
-unfolding bodyText
+body-short : (kind Y Z m : ℕ) → Y < 256 → Z < 256 → m < 256 → length (bodyOutput kind Y Z m) ≤ 19
+unfolding bodyOutput
 body-short kind Y Z m h l k =
     either (eqb kind 69) _ _ 19 (omega arith)
     (simp length-append (omega (arith, byte-short Y h, second-short kind Z m l k)))
 
-reason-short : (X kind Y Z m : ℕ) → X < 256 → Y < 256 → Z < 256 → m < 256 → length (reasonText X kind Y Z m) ≤ 26
-unfolding reasonText
+reason-short : (X kind Y Z m : ℕ) → X < 256 → Y < 256 → Z < 256 → m < 256 → length (reasonOutput X kind Y Z m) ≤ 26
+unfolding reasonOutput
 reason-short X kind Y Z m g h l k =
     either (eqb kind 71) _ _ 26 (omega arith)
     (simp length-append (omega (arith, byte-short X g, body-short kind Y Z m h l k)))
 
 pub record-short : (listing : List ℕ) (k : ℕ) → ((i : ℕ) → getD listing i 0 < 256) → length (recordLine listing k) ≤ 37
-unfolding recordLine transitionText
+unfolding recordLine transitionOutput
 record-short listing k b =
     let t =
     reason-short
-    (byteOf listing k 1)
-    (byteOf listing k 3)
-    (byteOf listing k 4)
-    (byteOf listing k 5)
-    (byteOf listing k 6)
+    (recordByte listing k 1)
+    (recordByte listing k 3)
+    (recordByte listing k 4)
+    (recordByte listing k 5)
+    (recordByte listing k 6)
     (b _)
     (b _)
     (b _)
@@ -95,8 +95,8 @@ record-short listing k b =
     simp length-append
     (omega (
       arith,
-      byte-short (byteOf listing k 0) (b _),
-      byte-short (byteOf listing k 1) (b _),
-      byte-short (byteOf listing k 2) (b _),
+      byte-short (recordByte listing k 0) (b _),
+      byte-short (recordByte listing k 1) (b _),
+      byte-short (recordByte listing k 2) (b _),
       t,
     ))

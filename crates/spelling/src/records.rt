@@ -4,13 +4,13 @@ use crate::lines;
 use crate::pieces;
 ghost use Prim.Native.Nat.{_+_, _*_, _≤_};
 ghost use lib.ListN.{length};
-ghost use Rattle.spelling.specs.Records.{transitionText, secondText, bodyText, reasonText, recordLine};
+ghost use Rattle.spelling.specs.Records.{transitionOutput, secondOutput, bodyOutput, reasonOutput, recordLine};
 ghost use Rattle.spelling.specs.Inside.Placed.{Placed, Room};
 
 // The transition, 'q X r'.
 fn put_transition(out: &mut [u8], at: usize, from: u8, symbol: u8, to: u8) -> usize
     requires room { ⌜ Room at 62 ⌝ }
-    ensures placed { λ r. ⌜ Placed (transitionText from symbol to) 62 at (now (out .entry)) r (now (out .exit)) ⌝ }
+    ensures placed { λ r. ⌜ Placed (transitionOutput from symbol to) 62 at (now (out .entry)) r (now (out .exit)) ⌝ }
 {
     let next = pieces::put_decimal(out, at, from as u64);
     let next = pieces::put_spaced(out, next, symbol as u64);
@@ -20,7 +20,7 @@ fn put_transition(out: &mut [u8], at: usize, from: u8, symbol: u8, to: u8) -> us
 // Of a pair rule the second symbol and the middle state, and the line's end.
 fn put_second(out: &mut [u8], at: usize, kind: u8, second: u8, middle: u8) -> usize
     requires room { ⌜ Room at 46 ⌝ }
-    ensures placed { λ r. ⌜ Placed (secondText kind second middle) 46 at (now (out .entry)) r (now (out .exit)) ⌝ }
+    ensures placed { λ r. ⌜ Placed (secondOutput kind second middle) 46 at (now (out .entry)) r (now (out .exit)) ⌝ }
 {
     if kind != b'P' {
         return pieces::put(out, at, b'\n');
@@ -32,7 +32,7 @@ fn put_second(out: &mut [u8], at: usize, kind: u8, second: u8, middle: u8) -> us
 // The rule's body.
 fn put_body(out: &mut [u8], at: usize, kind: u8, first: u8, second: u8, middle: u8) -> usize
     requires room { ⌜ Room at 70 ⌝ }
-    ensures placed { λ r. ⌜ Placed (bodyText kind first second middle) 70 at (now (out .entry)) r (now (out .exit)) ⌝ }
+    ensures placed { λ r. ⌜ Placed (bodyOutput kind first second middle) 70 at (now (out .entry)) r (now (out .exit)) ⌝ }
 {
     if kind == b'E' {
         return pieces::put_word(out, at, b" -> empty\n");
@@ -52,7 +52,7 @@ fn put_reason(
     middle: u8,
 ) -> usize
     requires room { ⌜ Room at 94 ⌝ }
-    ensures placed { λ r. ⌜ Placed (reasonText symbol kind first second middle) 94 at
+    ensures placed { λ r. ⌜ Placed (reasonOutput symbol kind first second middle) 94 at
         (now (out .entry)) r (now (out .exit)) ⌝ }
 {
     if kind == b'G' {

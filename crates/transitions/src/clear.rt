@@ -3,7 +3,7 @@ use job::REASON_NUMBERS;
 ghost use mathlib.Core.Path.{_≡_};
 ghost use Prim.Native.Nat.{_≤_};
 ghost use lib.ListN.{length};
-ghost use Rattle.job.specs.Clear.{cleared};
+ghost use Rattle.job.specs.Written.{cleared};
 ghost use Rattle.machine.specs.Table.{reasonsSize};
 
 // Makes the first 32,768 reasons 0.

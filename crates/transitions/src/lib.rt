@@ -1,9 +1,9 @@
 // What a step goes over: a transition's byte and its entry among the reasons, its partners, and the rules by the
 // symbols of their bodies.
 pub mod clear;
-pub mod index;
 pub mod step;
 pub mod table;
+pub mod users;
 
 // How many places of a table a state's transitions take: 64 rows of 32.
 pub const STATE_PLACES: usize = 2048;
@@ -15,7 +15,7 @@ pub const STATE_REASONS: usize = 1024;
 pub const ROWS: usize = 2048;
 
 // The ranks that an index of the rules holds: of each symbol those of up to 256 rules.
-pub const INDEX_RANKS: usize = 16384;
+pub const USER_RANKS: usize = 16384;
 
 // The reason of a given transition.
 pub const GIVEN_REASON: u16 = 65535;

@@ -4,7 +4,7 @@ use Rattle.grammar.proofs.Basics.{_≡_, true, false, Bool, _&&_, cond, _||_, o
 use Rattle.grammar.proofs.Basics.{arith, eqb, cases}
 use Rattle.grammar.specs.Rule.{Rule, head, body, empty, unit, pair}
 use Rattle.grammar.proofs.Strings.{All, nil, cons}
-use Rattle.job.specs.declared.Rule as declared
+use Rattle.job.specs.declared.RuleFields as declared
 use Rattle.job.specs.Format.{byteE, byteU}
 use Rattle.job.specs.Inside.Keys.{Keys, rulesOfKeys, ruleFrom, RuleFits}
 use Rattle.job.specs.Theorems.InRange.{RuleInRange, RulesInRange}
@@ -24,7 +24,7 @@ range-below r ρ m = rule-below ρ (r ρ m)
 pub keys-below : {keys : List ℕ} → Keys keys → Below 64 (rulesOfKeys keys)
 keys-below {keys} ks = range-below (keys-in-range keys (ks .fit))
 
-module _ (r : declared.Rule) where
+module _ (r : declared.RuleFields) where
   pub from-below : RuleFits r → All (λ X. X < 64) (head (ruleFrom r) ∷ body (ruleFrom r))
   from-below f = rule-below (ruleFrom r) (from-in-range r f)
 

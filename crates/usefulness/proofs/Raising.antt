@@ -6,7 +6,7 @@ use lib.ListN.{getD-replicate}
 use Rattle.grammar.specs.Counting.{one-if, count}
 use Rattle.grammar.proofs.Counting.{count-cong, count-one-more, count-bound}
 use Rattle.grammar.specs.Rule.{head}
-use Rattle.job.specs.declared.Rule as declared
+use Rattle.job.specs.declared.RuleFields as declared
 use Rattle.job.specs.Written.{written}
 use Rattle.job.specs.Inside.Keys.{ruleFrom}
 use Rattle.job.proofs.Filling.{written-long, written-at}
@@ -103,7 +103,7 @@ written-flags zeros long e =
     rw e record { long = rw written-long long; at = λ X l. written-at _ 64 zeros X l (omega arith) }
 
 -- the head of a rule raised
-pub raise-head : (r : declared.Rule) (test : Bool) {s : ℕ → Bool} {g : List ℕ} {a : ℕ} →
+pub raise-head : (r : declared.RuleFields) (test : Bool) {s : ℕ → Bool} {g : List ℕ} {a : ℕ} →
     Raised s (λ X. s X || (test && eqb (r .head) X)) g a →
     Raised s (λ X. s X || (test && standsIn X (head (ruleFrom r) ∷ []))) g a
 unfolding anyIn

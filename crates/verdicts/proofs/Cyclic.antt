@@ -7,7 +7,7 @@ use mathlib.Core.List.{Memᴰ·map}
 use Rattle.grammar.specs.Rule.{Rule, Among, head, body, empty, unit, pair}
 use Rattle.grammar.proofs.Strings.{All, cons}
 use Rattle.grammar.proofs.NoRepeat.{member-at}
-use Rattle.job.specs.declared.Rule as declared
+use Rattle.job.specs.declared.RuleFields as declared
 use Rattle.job.specs.Format.{byteE, byteU}
 use Rattle.job.specs.Inside.Keys.{unpacked, ruleOfKey, Keys, rulesOfKeys, ruleFrom}
 use Rattle.job.proofs.KeyRules.{rules-more, read-rule, read-fits}
@@ -21,7 +21,7 @@ use Rattle.verdicts.specs.Verdicts.{oneEach, onCycle, cyclic}
 use Rattle.verdicts.specs.Inside.Cycles.{pairTo, leadsBack, cycleAt}
 
 -- the test of a pair by the kind of a rule read by value
-pub pair-by-kind : (r : declared.Rule) (Z : ℕ) (set other : ℕ → Bool) →
+pub pair-by-kind : (r : declared.RuleFields) (Z : ℕ) (set other : ℕ → Bool) →
     pairTo Z set other (ruleFrom r)
     ≡ cond (eqb (r .kind) byteE) false
     (cond (eqb (r .kind) byteU) false (eqb (r .head) Z && oneEach set other (r .second) (r .third)))
@@ -40,7 +40,7 @@ pair-same Z same same′ (pair A X Y) (cons a (cons x (cons y none))) =
 -- the rules of some keys, tried one after the other by flags
 module _ (Z : ℕ) {keys back terminal : List ℕ} (ks : Keys keys)
     (b : Flags (leads (rulesOfKeys keys) (λ X. eqb Z X)) back) (t : Flags (toTerminal (rulesOfKeys keys)) terminal)
-    (k : ℕ) (l : k < length keys) {r : declared.Rule} (u : r ≡ unpacked (getD keys k 0))
+    (k : ℕ) (l : k < length keys) {r : declared.RuleFields} (u : r ≡ unpacked (getD keys k 0))
     {said : Bool} (says : said ≡ pairTo Z (flagged back) (flagged terminal) (ruleFrom r))
   where
     tried : said ≡ leadsBack (rulesOfKeys keys) Z (ruleOfKey (getD keys k 0))

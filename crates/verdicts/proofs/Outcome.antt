@@ -1,10 +1,9 @@
 -- What a call of the verdicts leaves, by whether it is refused. Assumes nothing.
-use Rattle.grammar.proofs.Basics.{_≡_, false, List, ℕ, _≤_, length, eq-eqb, ne-eqb, ltb-false}
+use Rattle.grammar.proofs.Basics.{_≡_, false, List, ℕ, _≤_, length, eq-eqb, ne-eqb}
 use Rattle.job.specs.declared.Checked.{Checked}
 use Rattle.job.specs.Accepted.{Accepted}
 use Rattle.job.specs.Job.{jobOf}
-use Rattle.job.proofs.Accepted.{number-accepted}
-use Rattle.job.proofs.JobChecks.{both-pass, not-short}
+use Rattle.job.proofs.CallChecks.{both-pass, long-enough, call-passed}
 use Rattle.verdicts.specs.Operation.{verdictsCheck, verdictsCheckBy, verdictsLeave, verdictsOn, verdictsOf}
 use Rattle.verdicts.specs.Operation.{verdictsBy}
 
@@ -17,13 +16,9 @@ pub record Unrefused (job table codes : List ℕ) : Type 0 where
 pub unrefused : (job table codes : List ℕ) → verdictsCheck job table codes .number ≡ 0 → Unrefused job table codes
 unfolding verdictsCheckBy
 unrefused job table codes e =
-    let (short, checked) = both-pass _ _ e in
-    let (short-table, short-codes) = both-pass _ _ short in
-    record {
-      passes = number-accepted false job checked;
-      table-long = ltb-false _ _ (not-short _ _ short-table);
-      codes-long = ltb-false _ _ (not-short _ _ short-codes);
-    }
+    let (short, ok) = call-passed _ false job e in
+    let (t, c) = both-pass _ _ short in
+    record { passes = ok; table-long = long-enough _ _ _ t; codes-long = long-enough _ _ _ c }
 
 pub verdicts-given : (job table codes : List ℕ) → verdictsCheck job table codes .number ≡ 0 →
     verdictsOf job table codes ≡ verdictsOn (jobOf job) table codes

@@ -5,9 +5,8 @@ use mathlib.Core.List.{List}
 use lib.Dec.{eqb}
 use Rattle.job.specs.declared.Checked.{Checked}
 use Rattle.job.specs.Check.{Checks, jobCheck, shortTable, shortCodes, orElse}
-use Rattle.job.specs.Clear.{cleared}
 use Rattle.job.specs.Job.{Job, jobOf}
-use Rattle.job.specs.Written.{written}
+use Rattle.job.specs.Written.{written, cleared}
 use Rattle.verdicts.specs.declared.Verdicts.{Verdicts}
 use Rattle.verdicts.specs.Verdicts.{codeOf, isEmpty, growing}
 

@@ -1,7 +1,4 @@
 // Verdicts: the codes of the symbols, whether the language is empty and whether it grows.
-pub mod codes;
-pub mod cycles;
-pub mod operation;
 pub mod theorems;
 
 // What the verdicts answer: a refusal's number and place, 0 and 0 where nothing is refused, and two verdicts.

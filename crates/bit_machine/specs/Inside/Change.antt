@@ -6,7 +6,7 @@ use mathlib.Core.List.{List}
 use lib.Dec.{eqb}
 use lib.ListN.{length, getD, drop}
 use Rattle.machine.specs.Table.{tableSize, isDone}
-use Rattle.bit_machine.specs.BitTable.{bitsSize, bitOf, bitAt, hasBoth, bytesOf}
+use Rattle.bit_machine.specs.BitTable.{bitsSize, bitOf, bitAt, hasBoth, tableOfBits}
 
 -- the 32 bits of row k of a half are those of a word, and nothing else is changed
 pub record RowWritten (before after : List ℕ) (half k word : ℕ) : Type 0 where
@@ -31,4 +31,4 @@ pub record Kept (before after : List ℕ) : Type 0 where
 
 -- no place is done, as where start has cleared both halves
 abbrev pub NoneDone : List ℕ → Type 0
-NoneDone bits = (p : ℕ) → p < tableSize → isDone (getD (bytesOf bits) p 0) ≡ false
+NoneDone bits = (p : ℕ) → p < tableSize → isDone (getD (tableOfBits bits) p 0) ≡ false

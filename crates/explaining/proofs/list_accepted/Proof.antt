@@ -3,7 +3,7 @@
 use Rattle.grammar.proofs.Basics.{refl, false, _≤_, _-_, arith, length, take, drop, true-and-false}
 use denote.Ref.{now}
 use Rattle.job.proofs.Keys.{keys-long}
-use Rattle.forms.proofs.Explaining.{Ready, ready, places-enough, may-pass, needed-few, refuses-13, may-write}
+use Rattle.forms.proofs.Explaining.{ReadyToList, ready, places-enough, may-pass, needed-few, refuses-13, may-write}
 use Rattle.forms.proofs.Explaining.{writes}
 use Rattle.explaining.proofs.list_accepted.Statement.{statement}
 use Rattle.explaining.proofs.list_accepted.Tie as tie
@@ -16,7 +16,7 @@ abbrev called : tie.After-sorted-rules → tie.Start
 called s = s .before .before .before .before .before .before .before
 
 passes-ready : (s : tie.After-sorted-rules) →
-    Ready (now (called s .args .job)) (now (called s .args .table)) (now (called s .args .reasons))
+    ReadyToList (now (called s .args .job)) (now (called s .args .table)) (now (called s .args .reasons))
     (now (called s .args .form)) (now (called s .args .places))
     (take (s .sorted-rules .result - 0) (drop 0 (s .sorted-rules .last .1 .0)))
 passes-ready s = ready _ (called s .pre) (s .sorted-rules .ensures)

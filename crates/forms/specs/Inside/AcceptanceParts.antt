@@ -1,13 +1,10 @@
 -- What single functions of the acceptance test take and give. Assumes nothing.
 use mathlib.Core.Path.{_≡_}
 use Prim.Native.Nat.{ℕ, _<_, _≤_}
-use mathlib.Core.Bool.{Bool, true, cond}
+use mathlib.Core.Bool.{Bool, true}
 use mathlib.Core.List.{List}
-use lib.Dec.{ltb}
 use lib.ListN.{length, getD, drop}
-use Rattle.job.specs.declared.Checked.{Checked}
 use Rattle.job.specs.Accepted.{Accepted}
-use Rattle.job.specs.Check.{refused, accepted}
 use Rattle.job.specs.Job.{jobOf}
 use Rattle.machine.specs.Table.{doneIn}
 use Rattle.bit_machine.specs.BitTable.{bitOf, bitStatuses}
@@ -38,7 +35,3 @@ pub record Filled (job bits form finish : List ℕ) (q : ℕ) : Type 0 where
 abbrev pub AgreeOn : (ℕ → ℕ → ℕ → Bool) → (ℕ → ℕ → ℕ → Bool) → List ℕ → Type 0
 AgreeOn done done' form =
     (i q r : ℕ) → i < length form → q < 32 → r < 32 → done q (getD form i 0) r ≡ done' q (getD form i 0) r
-
--- Refused calls, 10: a table of a length where a greater one is needed
-abbrev pub shortOf : ℕ → ℕ → Checked
-shortOf n needed = cond (ltb n needed) (refused 10 1) accepted

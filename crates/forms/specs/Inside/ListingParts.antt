@@ -1,23 +1,18 @@
 -- What the parts of the listing give, and what its walk down the reasons needs. Assumes nothing.
 use mathlib.Core.Path.{_≡_}
 use mathlib.Core.Bool.{Bool, true, not, cond}
-use mathlib.Core.List.{List, [], _∷_, _++_, map, List·Memᴰ}
+use mathlib.Core.List.{List, [], _∷_, _++_, List·Memᴰ}
 use Prim.Native.Nat.{ℕ, _+_, _-_, _*_, _≤_, _<_}
 use lib.Dec.{eqb, leb}
 use lib.ListN.{length, getD, set, drop}
 use lib.Seq.{sets}
 use Rattle.grammar.specs.Rule.{Rule}
 use Rattle.grammar.specs.Counting.{count}
-use Rattle.job.specs.Inside.Keys.{ruleOfKey}
 use Rattle.machine.specs.Table.{tableSize, reasonsSize, symbolAt}
 use Rattle.forms.specs.declared.ReasonBytes.{ReasonBytes}
 use Rattle.forms.specs.Listing.{Listed, listing, reasonAt, premises, recordsAt, isListed, visit, depthBound}
 use Rattle.forms.specs.Listing.{listAll}
 use Rattle.forms.specs.Grounded.{DonePlace, ReasonFits, Grounded}
-
--- the rules of a list of sort keys
-abbrev pub rulesOf : List ℕ → List Rule
-rulesOf keys = map ruleOfKey keys
 
 -- Forms and listings: the last five bytes of a record; the fifth is 0
 abbrev pub fiveBytes : ReasonBytes → List ℕ

@@ -7,7 +7,7 @@ use mathlib.Core.List.{List, [], _∷_, map}
 use Prim.Native.Nat.{ℕ, _<_, _≤_}
 use Rattle.grammar.specs.Automaton.{Transitions, Holds, Path, StatesBelow}
 use Rattle.job.specs.Job.{Job}
-use Rattle.machine.specs.Table.{place, toState}
+use Rattle.machine.specs.Table.{tablePlace, toState}
 use Rattle.machine.specs.Smallest.{DecidesSmallest}
 use Rattle.forms.specs.Acceptance.{SymbolsFit, canFinish, isAccepted, route, DerivesGiven}
 
@@ -44,7 +44,7 @@ pub record FirstAccepting (final : ℕ → Bool) (done : ℕ → ℕ → ℕ →
 unfoldable pub placesAlong : ℕ → List ℕ → List ℕ → List ℕ
 placesAlong q [] states = []
 placesAlong q (X ∷ w) [] = []
-placesAlong q (X ∷ w) (r ∷ states) = place q X r ∷ placesAlong r w states
+placesAlong q (X ∷ w) (r ∷ states) = tablePlace q X r ∷ placesAlong r w states
 
 -- the route of an accepted form: its states come first of all accepting sequences, and its places are those of the
 -- transitions through them

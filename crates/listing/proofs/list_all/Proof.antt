@@ -4,7 +4,8 @@ use Rattle.grammar.proofs.Basics.{_≡_, sym, List, ℕ, _<_, _≤_, _-_, add-o
 use Rattle.grammar.proofs.Basics.{getD-take}
 use lib.ListN.{length-replicate}
 use Rattle.machine.specs.Table.{reasonsSize}
-use Rattle.forms.specs.Inside.ListingParts.{rulesOf, passOf, CanListAll}
+use Rattle.forms.specs.Inside.ListingParts.{passOf, CanListAll}
+use Rattle.job.specs.Inside.Keys.{rulesOfKeys}
 use Rattle.forms.proofs.Walks.{table-kept, out-kept}
 use Rattle.forms.proofs.ListAll.{Passing, pass-begins, next-done, pass-goes-on, pass-ends, may-visit}
 use Rattle.listing.proofs.list_all.Statement.{statement}
@@ -14,7 +15,7 @@ abbrev Inv-loop : tie.InvT-loop
 Inv-loop table₀ reasons keys route n listing₀ write path₀ count₀ i₀ table listing path count i =
     (i ≤ n)
     × (length path ≡ reasonsSize)
-    × (can : CanListAll write (rulesOf keys) reasons table₀ (take n route) listing₀)
+    × (can : CanListAll write (rulesOfKeys keys) reasons table₀ (take n route) listing₀)
     × Passing can i (passOf table count listing)
 
 abbrev μ-loop : tie.MeasureT-loop

@@ -1,7 +1,7 @@
 -- A given reason has no rule; any other says the rule at its rank. Assumes nothing.
 use Rattle.grammar.proofs.Basics.{_∙_, sym, subst, _<_, _≤_, _-_, _/_, arith, length}
 use Rattle.forms.specs.Grounded.{ReasonFits}
-use Rattle.forms.specs.Inside.ListingParts.{rulesOf}
+use Rattle.job.specs.Inside.Keys.{rulesOfKeys}
 use Rattle.forms.proofs.ReasonLaws.{bytes-given, bytes-of-key, key-below}
 use Rattle.listing.proofs.reason_bytes.Statement.{statement}
 use Rattle.listing.proofs.reason_bytes.Tie as tie
@@ -16,7 +16,7 @@ below : (c : tie.Else1) →
 below c =
     let r = c .before in
     key-below (called r .args .keys .now) _
-    (subst (ReasonFits (rulesOf (called r .args .keys .now))) (sym (r .reason-at .ensures)) (called r .pre .fits))
+    (subst (ReasonFits (rulesOfKeys (called r .args .keys .now))) (sym (r .reason-at .ensures)) (called r .pre .fits))
     (c .if1 .left)
 
 returns : tie.Need-returns

@@ -2,7 +2,8 @@
 -- Assumes nothing.
 use Rattle.grammar.proofs.Basics.{_∙_, sym, _≤_, arith, eq-eqb, ne-eqb, leb-true, leb-false}
 use Rattle.machine.specs.Table.{symbolAt}
-use Rattle.forms.specs.Inside.ListingParts.{rulesOf, passOf, walkingOf}
+use Rattle.forms.specs.Inside.ListingParts.{passOf, walkingOf}
+use Rattle.job.specs.Inside.Keys.{rulesOfKeys}
 use Rattle.forms.proofs.Walks.{table-kept, out-kept}
 use Rattle.forms.proofs.WalkMoves.{Underway, leftOf, arrives, may-move, moves}
 use Rattle.forms.proofs.WalkStarts.{already-listed, terminal-may, terminal-shown, sets-out}
@@ -11,7 +12,7 @@ use Rattle.listing.proofs.visit.Tie as tie
 
 abbrev Inv-loop : tie.InvT-loop
 Inv-loop table₀ reasons keys path₀ listing₀ write count p w₀ table path listing w =
-    Underway write (rulesOf keys) reasons p (passOf table₀ count listing₀)
+    Underway write (rulesOfKeys keys) reasons p (passOf table₀ count listing₀)
     (walkingOf table (w .count) listing path (w .depth))
 
 abbrev μ-loop : tie.MeasureT-loop

@@ -5,7 +5,7 @@ use Rattle.grammar.specs.Rule.{Rule, empty, unit, pair, Among, head, body}
 use Rattle.grammar.specs.Automaton.{Transitions, Path, here, along}
 use Rattle.grammar.specs.Closure.{Closure}
 use Rattle.grammar.proofs.Smallest.{closure-least}
-use Rattle.machine.specs.Table.{place, Statuses, isPendingAt, doneIn}
+use Rattle.machine.specs.Table.{tablePlace, Statuses, isPendingAt, doneIn}
 use Rattle.machine.specs.Step.{isFinished}
 use Rattle.machine.proofs.Tables.Places.{by-parts}
 use Rattle.machine.proofs.Tables.Statuses.{done-not-absent, pending-not-absent, pending-not-done, there-done}
@@ -30,9 +30,9 @@ module _ {ρs : List Rule} {D : Transitions} {s : ℕ} {v : Statuses} (grown : G
       none-pending-finished v
       (by-parts
       (λ p. isPendingAt v p ≡ false)
-      (λ q X r ql xl rl. not-true-false (isPendingAt v (place q X r))
-      (λ e. true-and-false (all q X r ql xl rl (grown .sound q X r ql xl rl (pending-not-absent (v (place q X r)) e)))
-      (pending-not-done (v (place q X r)) e))))
+      (λ q X r ql xl rl. not-true-false (isPendingAt v (tablePlace q X r))
+      (λ e. true-and-false (all q X r ql xl rl (grown .sound q X r ql xl rl (pending-not-absent (v (tablePlace q X r)) e)))
+      (pending-not-done (v (tablePlace q X r)) e))))
 
   module _ (range : RulesInRange ρs) (fits : GivenInRange D s) (finished : isFinished v ≡ true) where
     there-is-done : Within (There v) (InDone v)

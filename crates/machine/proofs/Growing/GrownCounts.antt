@@ -6,7 +6,7 @@ use Rattle.grammar.specs.Automaton.{Transitions}
 use Rattle.grammar.specs.Closure.{Closure}
 use Rattle.grammar.specs.Counting.{HasCount}
 use Rattle.grammar.proofs.Counting.{count-monotone, count-equal, has-count-unique}
-use Rattle.machine.specs.Table.{tableSize, place, fromState, symbolAt, toState, Statuses, isDoneAt, doneIn}
+use Rattle.machine.specs.Table.{tableSize, tablePlace, fromState, symbolAt, toState, Statuses, isDoneAt, doneIn}
 use Rattle.machine.specs.Step.{isFinished}
 use Rattle.machine.specs.Table.{doneCount}
 use Rattle.machine.proofs.Tables.Places.{place-of-parts, from-state-place, symbol-at-place, to-state-place}
@@ -52,7 +52,7 @@ module _ {ρs : List Rule} {D : Transitions} {s : ℕ} {v : Statuses} (grown : G
     full-count-finished e =
         all-done-is-finished grown
         (λ q X r ql xl rl c.
-        let l : place q X r < tableSize = omega arith in
+        let l : tablePlace q X r < tableSize = omega arith in
         count-equal _ _ tableSize done-within (e ∙ sym (counted .counted)) _ l
         ∙ counted .complete _ l (rw (from-state-place, symbol-at-place, to-state-place) c))
 

@@ -6,7 +6,7 @@ use Rattle.grammar.proofs.Basics.{eqb-true, eqb-false, cases, or-split, or-left
 use Rattle.grammar.specs.Rule.{Rule, empty, unit, pair, Among}
 use Rattle.grammar.specs.Automaton.{Transitions, StatesBelow}
 use Rattle.grammar.specs.Closure.{Closure}
-use Rattle.machine.specs.Table.{Lent, tableSize, place, fromState, symbolAt, toState, Statuses, isAbsentAt}
+use Rattle.machine.specs.Table.{Lent, tableSize, tablePlace, fromState, symbolAt, toState, Statuses, isAbsentAt}
 use Rattle.machine.specs.Table.{doneIn, statuses}
 use Rattle.machine.specs.Step.{offered, doneWith}
 use Rattle.machine.specs.Advance.{steps}
@@ -21,7 +21,7 @@ use Rattle.machine.proofs.Steps.StepLaws.{steps-keep-said}
 
 -- the transition is pending or done
 abbrev pub There : Statuses → Transitions
-There v q X r = isAbsentAt v (place q X r) ≡ false
+There v q X r = isAbsentAt v (tablePlace q X r) ≡ false
 
 -- at the states and symbols that there are, what is in T is in U
 abbrev pub Within : (T U : Transitions) → Type 0
@@ -52,20 +52,20 @@ module _ {ρs : List Rule} {v : Statuses} {p : ℕ} {v' : Statuses} (taken : Tak
     done-after-with : doneIn v' q X r ≡ true → doneWith v p q X r ≡ true
     unfolding doneIn
     done-after-with e =
-        cases (eqb (place q X r) p)
-        (or-left (eqb (place q X r) p) _)
-        (λ f. or-right (eqb (place q X r) p) _ (sym (done-others taken _ (omega arith) (eqb-false _ _ f)) ∙ e))
+        cases (eqb (tablePlace q X r) p)
+        (or-left (eqb (tablePlace q X r) p) _)
+        (λ f. or-right (eqb (tablePlace q X r) p) _ (sym (done-others taken _ (omega arith) (eqb-false _ _ f)) ∙ e))
 
     pub with-done-after : doneWith v p q X r ≡ true → doneIn v' q X r ≡ true
     unfolding doneIn
     with-done-after e =
-        ⊎-elim (λ f. rw (eqb-true (place q X r) p f) (taken-done taken)) (done-kept taken _ (omega arith))
+        ⊎-elim (λ f. rw (eqb-true (tablePlace q X r) p f) (taken-done taken)) (done-kept taken _ (omega arith))
         (or-split _ _ e)
 
   pub with-there : (q X r : ℕ) → doneWith v p q X r ≡ true → There v q X r
   unfolding doneIn
   with-there q X r e =
-      ⊎-elim (λ f. rw (eqb-true (place q X r) p f) (pending-not-absent (v p) (taken .pending))) (done-not-absent (v _))
+      ⊎-elim (λ f. rw (eqb-true (tablePlace q X r) p f) (pending-not-absent (v p) (taken .pending))) (done-not-absent (v _))
       (or-split _ _ e)
 
   -- the taken transition is one of those
@@ -73,7 +73,7 @@ module _ {ρs : List Rule} {v : Statuses} {p : ℕ} {v' : Statuses} (taken : Tak
   taken-with = or-left _ _ (eq-eqb _ _ (place-of-parts p (taken .below)))
 
   -- a consequent of the taken transition is there after the step
-  consequent-there : (q X r : ℕ) → X < 64 → r < 32 → place q X r ≡ p →
+  consequent-there : (q X r : ℕ) → X < 64 → r < 32 → tablePlace q X r ≡ p →
       {ρ : Rule} {a A b middle : ℕ} → Among ρs ρ → a < 32 → A < 32 → b < 32 →
       Consequent (doneWith v p) q X r ρ a A b middle → There v' a A b
   unfolding offered

@@ -7,7 +7,7 @@ use Rattle.grammar.specs.Rule.{Rule, empty}
 use Rattle.grammar.specs.Automaton.{Holds}
 use Rattle.grammar.proofs.Meetings.{Test}
 use Rattle.job.specs.Job.{Job}
-use Rattle.machine.specs.Table.{tableSize, place, fromState, symbolAt, toState, reasonPlace, Statuses}
+use Rattle.machine.specs.Table.{tableSize, tablePlace, fromState, symbolAt, toState, reasonPlace, Statuses}
 use Rattle.machine.specs.Table.{isAbsentAt, doneIn, doneCount, reasonOf, reasonIn, turnAt}
 use Rattle.machine.specs.Step.{offered, doneWith, comesIn}
 use Rattle.job.specs.Theorems.InRange.{InRange, RuleInRange}
@@ -27,8 +27,8 @@ module _ {ρs : List Rule} {v : Statuses} {p : ℕ} {v' : Statuses} (taken : Tak
   taken-there : isAbsentAt v p ≡ false
   taken-there = pending-not-absent (v p) (taken .pending)
 
-  new-comes : (q X r : ℕ) → q < 32 → X < 64 → r < 32 → isAbsentAt v (place q X r) ≡ true →
-      isAbsentAt v' (place q X r) ≡ false → comesIn ρs v p q X r ≡ true
+  new-comes : (q X r : ℕ) → q < 32 → X < 64 → r < 32 → isAbsentAt v (tablePlace q X r) ≡ true →
+      isAbsentAt v' (tablePlace q X r) ≡ false → comesIn ρs v p q X r ≡ true
   new-comes q X r ql xl rl new there =
       and-both _ _ new
       (⊎-elim (λ e. true-and-false new (ap (isAbsentAt v) e ∙ taken-there))
@@ -42,14 +42,14 @@ module _ (J : Job) (range : InRange J) where
   module _ (done done' : Test) (turn turn' : ℕ → ℕ)
       (stays :
       (q X r : ℕ) → q < 32 → X < 64 → r < 32 → done q X r ≡ true →
-      (done' q X r ≡ true) × (turn' (place q X r) ≡ turn (place q X r))) where
+      (done' q X r ≡ true) × (turn' (tablePlace q X r) ≡ turn (tablePlace q X r))) where
     premise-carries : {above q X r : ℕ} → q < 32 → X < 64 → r < 32 → turn' above ≡ turn above →
         Premise done turn above q X r → Premise done' turn' above q X r
     premise-carries {above} {q} {X} {r} ql xl rl same a =
         let s = stays q X r ql xl rl (a .is-done) in
         record { is-done = s .0; earlier = omega (arith, a .earlier) }
 
-    reason-carries : (q A r n : ℕ) → q < 32 → r < 32 → turn' (place q A r) ≡ turn (place q A r) →
+    reason-carries : (q A r n : ℕ) → q < 32 → r < 32 → turn' (tablePlace q A r) ≡ turn (tablePlace q A r) →
         Reason J done turn q A r n → Reason J done' turn' q A r n
     reason-carries q A r n ql rl same (Reason.by-given g e) = Reason.by-given g e
     reason-carries q A r n ql rl same (Reason.by-empty rank g e rule s l) = Reason.by-empty rank g e rule s l
@@ -77,12 +77,12 @@ module _ (J : Job) (range : InRange J) where
     new-premise above turn q X r ql xl rl e =
         record {
           is-done = with-done-after taken q X r ql xl rl e;
-          earlier = rw turn (old-below (place q X r) (omega arith) (with-there taken q X r e));
+          earlier = rw turn (old-below (tablePlace q X r) (omega arith) (with-there taken q X r e));
         }
 
     -- a reason of what comes in, by the rule that offers it
     new-reason : {ρ : Rule} {a A b middle : ℕ} (rank n : ℕ) → a < 32 → b < 32 →
-        turnAt reasons' (place a A b) ≡ doneCount v' → J .given a A b ≡ false → RuleAt (J .rules) rank ρ →
+        turnAt reasons' (tablePlace a A b) ≡ doneCount v' → J .given a A b ≡ false → RuleAt (J .rules) rank ρ →
         n ≡ reasonOf rank middle → Consequent (doneWith v p) (fromState p) (symbolAt p) (toState p) ρ a A b middle →
         Reason J (doneIn v') (turnAt reasons') a A b n
     new-reason rank n al bl turn g rule e by-unit =
@@ -102,13 +102,13 @@ module _ (J : Job) (range : InRange J) where
       added : Added (getD reasons' (reasonPlace q A r) 0) (offered (J .rules) v p q A r) (doneCount v')
       added = taken-added (J .rules) v p reasons reasons' reasons-taken taken (range .rule-count) q A r ql al rl comes
 
-      added-turn : turnAt reasons' (place q A r) ≡ doneCount v'
+      added-turn : turnAt reasons' (tablePlace q A r) ≡ doneCount v'
       added-turn = turn-at reasons' q A r (omega arith) rl ∙ rw lt-leb (added .turn-is)
 
       added-reason : Reason J (doneIn v') (turnAt reasons') q A r (reasonIn (getD reasons' (reasonPlace q A r) 0))
       unfolding offered
       added-reason =
-          let (new, o) = and-split (isAbsentAt v (place q A r)) _ .0 comes in
+          let (new, o) = and-split (isAbsentAt v (tablePlace q A r)) _ .0 comes in
           let f =
           least-offer-fits _ (fromState p) (symbolAt p) (toState p) 0 (J .rules) (empty 0) q A r (leb-true 1 _ o) in
           new-reason (f .0) _ ql rl added-turn
@@ -120,32 +120,32 @@ module _ (J : Job) (range : InRange J) where
     taken-reasons-fit =
         record {
           bounded = by-parts (λ i. isAbsentAt v' i ≡ false → turnAt reasons' i ≤ doneCount v')
-              (λ q X r ql xl rl there. cases (isAbsentAt v (place q X r))
+              (λ q X r ql xl rl there. cases (isAbsentAt v (tablePlace q X r))
               (λ new. cases (leb 32 X)
               (λ t. rw (turn-at, t) (omega arith))
               (λ t. omega (
                 arith,
                 added-turn q X r ql (leb-false 32 X t) rl (new-comes taken q X r ql xl rl new there),
               )))
-              (λ old. omega (arith, old-below (place q X r) (omega arith) old)));
+              (λ old. omega (arith, old-below (tablePlace q X r) (omega arith) old)));
           done-bounded = λ i l e. old-below i l
               (cases (eqb i p)
               (λ f. ap (isAbsentAt v) (eqb-true _ _ f) ∙ taken-there taken)
               (λ f. done-not-absent (v i) (sym (done-others taken i l (eqb-false _ _ f)) ∙ e)));
-          fits = λ q A r ql al rl there. cases (isAbsentAt v (place q A r))
+          fits = λ q A r ql al rl there. cases (isAbsentAt v (tablePlace q A r))
               (λ new. added-reason q A r ql al rl (new-comes taken q A r ql (omega arith) rl new there))
               -- what was there before keeps its reason
               (λ old. rw (reasons-taken, old)
               (reason-carries (doneIn v) (doneIn v') (turnAt reasons) (turnAt reasons')
               (λ q X r ql xl rl d. (
-                done-kept taken (place q X r) (omega arith) d,
-                same-turn (place q X r) (omega arith) (done-not-absent (v (place q X r)) d),
+                done-kept taken (tablePlace q X r) (omega arith) d,
+                same-turn (tablePlace q X r) (omega arith) (done-not-absent (v (tablePlace q X r)) d),
               ))
-              q A r (reasonIn (getD reasons (reasonPlace q A r) 0)) ql rl (same-turn (place q A r) (omega arith) old)
+              q A r (reasonIn (getD reasons (reasonPlace q A r) 0)) ql rl (same-turn (tablePlace q A r) (omega arith) old)
               (fit .fits q A r ql al rl old)));
           none = λ q A r ql al rl gone.
-              let before : isAbsentAt v (place q A r) ≡ true =
-              not-false-true _ (λ e. true-and-false gone (there-kept taken (place q A r) (omega arith) e)) in
+              let before : isAbsentAt v (tablePlace q A r) ≡ true =
+              not-false-true _ (λ e. true-and-false gone (there-kept taken (tablePlace q A r) (omega arith) e)) in
               let unoffered : leb 1 (offered (J .rules) v p q A r) ≡ false = not-true-false _
               (λ o. true-and-false gone (offered-comes taken q A r ql (omega arith) rl (leb-true _ _ o))) in
               rw (reasons-taken, before, unoffered) (fit .none q A r ql al rl before);

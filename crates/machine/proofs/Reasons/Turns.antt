@@ -4,7 +4,7 @@ use Rattle.grammar.proofs.Basics.{_≡_, _∙_, true, false, cond, List, ℕ, _
 use Rattle.grammar.proofs.Basics.{leb-false, cases, and-left}
 use Rattle.grammar.specs.Rule.{Rule, empty}
 use Rattle.grammar.proofs.Meetings.{Test}
-use Rattle.machine.specs.Table.{tableSize, place, fromState, symbolAt, toState, reasonPlace, Statuses}
+use Rattle.machine.specs.Table.{tableSize, tablePlace, fromState, symbolAt, toState, reasonPlace, Statuses}
 use Rattle.machine.specs.Table.{isAbsentAt, doneCount, turnIn, turnAt}
 use Rattle.machine.specs.Step.{lowest, offered, comesIn, taking}
 use Rattle.machine.specs.Theorems.Turns.{Added, StepTurns}
@@ -18,7 +18,7 @@ use Rattle.machine.proofs.Steps.StepLaws.{said, step-taking, lowest-tak
 
 -- the turn at a transition's place
 pub turn-at : (reasons : List ℕ) (q X r : ℕ) → X < 64 → r < 32 →
-    turnAt reasons (place q X r) ≡ cond (leb 32 X) 0 (turnIn (getD reasons (reasonPlace q X r) 0))
+    turnAt reasons (tablePlace q X r) ≡ cond (leb 32 X) 0 (turnIn (getD reasons (reasonPlace q X r) 0))
 turn-at reasons q X r xl rl = rw (from-state-place, symbol-at-place, to-state-place)
 
 -- a middle is a state of the taken transition, or 0
@@ -54,7 +54,7 @@ module _ (ρs : List Rule) (v : Statuses) (p : ℕ) (reasons reasons' : List ℕ
       Added (getD reasons' (reasonPlace q A r) 0) (offered ρs v p q A r) (doneCount v')
   taken-added taken few q A r ql al rl comes =
       let small = offered-below ρs v p q A r few (taken .below) in
-      let below = turn-below v p (taken .below) (taken .pending) (place q A r) (omega arith) (and-left _ _ comes) in
+      let below = turn-below v p (taken .below) (taken .pending) (tablePlace q A r) (omega arith) (and-left _ _ comes) in
       rw (reasons-taken, comes)
       record { reason-is = omega arith; turn-is = omega arith ∙ turn-after taken; at-most = omega arith }
 

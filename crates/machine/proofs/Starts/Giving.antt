@@ -4,7 +4,7 @@ use Rattle.grammar.proofs.Basics.{_≡_, refl, true, false, Bool, not, List, �
 use Rattle.grammar.proofs.Basics.{set, eq-eqb, ne-eqb, not-true, not-false}
 use Rattle.job.specs.declared.JobRecord.{JobRecord}
 use Rattle.job.specs.Format.{byteT, noRecord}
-use Rattle.machine.specs.Table.{Lent, lentOf, place, reasonPlace, givenReason}
+use Rattle.machine.specs.Table.{Lent, lentOf, tablePlace, reasonPlace, givenReason}
 use Rattle.machine.specs.Inside.StartParts.{giving, givingAll}
 use Rattle.machine.proofs.Starts.StartWalk.{Walked, walk-goes-on, walk-ends}
 
@@ -15,7 +15,7 @@ module _ (r : JobRecord) (table reasons : List ℕ) where
   not-given d = rw (ne-eqb (r .kind) byteT d)
 
   module _ (e : r .kind ≡ byteT) (t : List ℕ)
-      (pending : t ≡ set table (place (r .first) (r .second) (r .third)) 1) (v : Bool)
+      (pending : t ≡ set table (tablePlace (r .first) (r .second) (r .third)) 1) (v : Bool)
       (is : v ≡ ltb (r .second) 32) where
     pub terminal-given : not v ≡ true → lentOf t reasons ≡ giving r (lentOf table reasons)
     unfolding giving

@@ -1,13 +1,11 @@
 -- What the functions that write the ε transitions leave, on a table of bytes or of bits: one state after the other for
 -- an E rule, and one rule after the other. Assumes nothing.
-use Rattle.grammar.proofs.Basics.{_≡_, refl, _∙_, ap, false, List, map, ℕ, _<_, _≤_, _+_, _*_, add-one, arith, eqb}
-use Rattle.grammar.proofs.Basics.{length, getD, take, eq-eqb, ne-eqb, length-map, List·getD-map, length-take-le}
-use Rattle.grammar.proofs.Basics.{getD-take, cases}
-use Rattle.grammar.specs.Rule.{Rule}
+use Rattle.grammar.proofs.Basics.{_≡_, refl, _∙_, ap, false, List, ℕ, _<_, _≤_, _+_, _*_, add-one, arith, eqb}
+use Rattle.grammar.proofs.Basics.{length, getD, eq-eqb, ne-eqb, length-map, List·getD-map, cases}
 use Rattle.job.specs.Format.{byteE, byteU}
-use Rattle.job.specs.Inside.Keys.{KeyFits, unpacked, keyHead, keyKind, ruleOfKey}
-use Rattle.job.specs.declared.Rule as declared
-use Rattle.machine.specs.Table.{Lent, lentOf, place, reasonOf}
+use Rattle.job.specs.Inside.Keys.{KeyFits, unpacked, keyHead, keyKind, ruleOfKey, rulesOfKeys}
+use Rattle.job.specs.declared.RuleFields as declared
+use Rattle.machine.specs.Table.{Lent, lentOf, tablePlace, reasonOf}
 use Rattle.machine.specs.Inside.Offers.{VariablePlace, offerTo, addOffer}
 use Rattle.machine.specs.Inside.StartParts.{loopingBelow, loopingRule, loopingAll}
 use Rattle.machine.proofs.Offers.Adding.{variable-place}
@@ -21,8 +19,8 @@ pub record Looped (states A reason : ℕ) (m m' : Lent) (q : ℕ) : Type 0 where
   pub long : AsLong m m'
   pub so-far : m' ≡ loopingBelow A reason q m
 
-pub loop-place : (states key q : ℕ) (ρ : declared.Rule) → ρ ≡ unpacked key → KeyFits key → states ≤ 32 → q < states →
-    VariablePlace (place q (ρ .head) q)
+pub loop-place : (states key q : ℕ) (ρ : declared.RuleFields) → ρ ≡ unpacked key → KeyFits key → states ≤ 32 → q < states →
+    VariablePlace (tablePlace q (ρ .head) q)
 loop-place states key q ρ unpack fits few h =
     variable-place q (ρ .head) q (omega arith) (body-fits key ρ unpack fits .head) (omega arith)
 
@@ -42,7 +40,7 @@ looped-goes-on states A reason m m' q t t' h e l l' so =
       so-far = rw add-one (e ∙ ap (addOffer (offerTo q A q reason)) (so .so-far));
     }
 
-module _ (states rank key : ℕ) (m : Lent) (ρ : declared.Rule) (unpack : ρ ≡ unpacked key) where
+module _ (states rank key : ℕ) (m : Lent) (ρ : declared.RuleFields) (unpack : ρ ≡ unpacked key) where
   pub no-loop : (ρ .kind ≡ byteE → ⊥) → m ≡ loopingRule states rank (ruleOfKey key) m
   unfolding ruleOfKey
   no-loop d =
@@ -58,27 +56,20 @@ module _ (states rank key : ℕ) (m : Lent) (ρ : declared.Rule) (unpack : ρ �
       let head : ρ .head ≡ keyHead key = cc in
       rw (eq-eqb (keyKind key) byteE (cc), ← e, ← n, ← head) (l .so-far)
 
--- the rules of the first n keys
-abbrev pub rulesOf : List ℕ → ℕ → List Rule
-rulesOf keys n = map ruleOfKey (take n keys)
+-- the rules of the keys
+module _ (states : ℕ) (keys : List ℕ) (m m' : Lent) (k : ℕ)
+    (walked : Walked (loopingAll states) (rulesOfKeys keys) m m' k) where
+  pub rules-go-on : (t t' : List ℕ) → k < length keys →
+      lentOf t t' ≡ loopingRule states k (ruleOfKey (getD keys k 0)) m' →
+      length t ≡ length (m' .table) → length t' ≡ length (m' .reasons) →
+      Walked (loopingAll states) (rulesOfKeys keys) m (lentOf t t') (k + 1)
+  unfolding loopingAll
+  rules-go-on t t' h e =
+      walk-goes-on (loopingAll states) (rulesOfKeys keys) m m' k walked (loopingRule states) (λ i x xs o. refl)
+      (ruleOfKey 0) t t' (omega (arith, length-map keys ruleOfKey)) (rw (List·getD-map ruleOfKey keys k 0) e)
 
-module _ (states : ℕ) (keys : List ℕ) (n : ℕ) (fits : n ≤ length keys) where
-  rule-count : length (rulesOf keys n) ≡ n
-  rule-count = length-map (take n keys) ruleOfKey ∙ length-take-le n keys fits
-
-  rule-at : (k : ℕ) → k < n → getD (rulesOf keys n) k (ruleOfKey 0) ≡ ruleOfKey (getD keys k 0)
-  rule-at k h = rw (List·getD-map ruleOfKey (take n keys) k 0, getD-take n keys k 0 h)
-
-  module _ (m m' : Lent) (k : ℕ) (walked : Walked (loopingAll states) (rulesOf keys n) m m' k) where
-    pub rules-go-on : (t t' : List ℕ) → k < n → lentOf t t' ≡ loopingRule states k (ruleOfKey (getD keys k 0)) m' →
-        length t ≡ length (m' .table) → length t' ≡ length (m' .reasons) →
-        Walked (loopingAll states) (rulesOf keys n) m (lentOf t t') (k + 1)
-    unfolding loopingAll
-    rules-go-on t t' h e =
-        walk-goes-on (loopingAll states) (rulesOf keys n) m m' k walked (loopingRule states) (λ i x xs o. refl)
-        (ruleOfKey 0) t t' (omega (arith, rule-count)) (rw (rule-at k h) e)
-
-    pub rules-end : n ≤ k → m' ≡ loopingAll states 0 (rulesOf keys n) m
-    unfolding loopingAll
-    rules-end h =
-        walk-ends (loopingAll states) (rulesOf keys n) m m' k walked (λ i o. refl) (omega (arith, rule-count))
+  pub rules-end : length keys ≤ k → m' ≡ loopingAll states 0 (rulesOfKeys keys) m
+  unfolding loopingAll
+  rules-end h =
+      walk-ends (loopingAll states) (rulesOfKeys keys) m m' k walked (λ i o. refl)
+      (omega (arith, length-map keys ruleOfKey))

@@ -1,16 +1,14 @@
 -- Start writes what it is to write: cleared memory, then the records one after the other, then the rules in the order
 -- of their ranks. Also what the functions called one after the other want of an accepted job, and leave, on a table of
 -- bytes or of bits. Assumes nothing.
-use Rattle.grammar.proofs.Basics.{_≡_, true, false, Bool, List, map, ℕ, _<_, _≤_, arith, length, getD, take}
-use Rattle.grammar.specs.Rule.{empty}
+use Rattle.grammar.proofs.Basics.{_≡_, true, false, Bool, List, ℕ, _<_, _≤_, arith, length, getD}
+use Rattle.grammar.specs.Rule.{Rule, empty}
 use Rattle.grammar.proofs.NoRepeat.{member-at}
 use Rattle.job.specs.Format.{recordsOf, noRecord}
 use Rattle.job.specs.Accepted.{Accepted}
-use Rattle.job.specs.Clear.{cleared}
-use Rattle.job.specs.Inside.Keys.{KeyFits, ruleOfKey}
-use Rattle.job.specs.Job.{sortKey, sortedRules, statesOf, jobOf, jobOfRecords}
+use Rattle.job.specs.Written.{cleared}
+use Rattle.job.specs.Job.{statesOf, jobOf, jobOfRecords}
 use Rattle.job.proofs.AcceptedFacts.{in-range, transition-fits}
-use Rattle.job.proofs.Keys.{keys-of-rules, rules-of-keys}
 use Rattle.machine.specs.Table.{Lent, lentOf, tableSize, reasonsSize}
 use Rattle.machine.specs.Start.{started}
 use Rattle.machine.specs.Inside.StartParts.{TransitionFits, givingAll, loopingAll}
@@ -45,18 +43,10 @@ module _ (job : List ℕ) (ok : Accepted true job) where
     pub few-states : s ≤ 32
     few-states = omega (arith, states-counted, in-range ok .states)
 
-    module _ (keys : List ℕ) (n : ℕ) (count : n ≡ length (sortedRules (recordsOf job)))
-        (sorted : take n keys ≡ map sortKey (sortedRules (recordsOf job))) where
-      pub few-rules : n ≤ 256
-      few-rules = keys-of-rules ok keys n count sorted .0
-
-      pub keys-fit : (k : ℕ) → k < n → KeyFits (getD keys k 0)
-      keys-fit = keys-of-rules ok keys n count sorted .1
-
-      pub begun : (t rs t₁ rs₁ : List ℕ) (m₂ m₃ : Lent) → 65536 ≤ length t → 32768 ≤ length rs →
-          t₁ ≡ cleared tableSize t → rs₁ ≡ cleared reasonsSize rs →
-          m₂ ≡ givingAll (recordsOf job) (lentOf t₁ rs₁) → m₃ ≡ loopingAll s 0 (map ruleOfKey (take n keys)) m₂ →
-          m₃ ≡ started (jobOf job) (lentOf t rs)
-      begun t rs t₁ rs₁ m₂ m₃ long long-reasons clear clear-reasons given looped =
-          rw (looped, given, clear, clear-reasons, states-counted, rules-of-keys ok keys n count sorted)
-          (all-written job ok (lentOf t rs) long long-reasons)
+    pub begun : {rules : List Rule} → rules ≡ jobOf job .rules → (t rs t₁ rs₁ : List ℕ) (m₂ m₃ : Lent) →
+        65536 ≤ length t → 32768 ≤ length rs → t₁ ≡ cleared tableSize t → rs₁ ≡ cleared reasonsSize rs →
+        m₂ ≡ givingAll (recordsOf job) (lentOf t₁ rs₁) → m₃ ≡ loopingAll s 0 rules m₂ →
+        m₃ ≡ started (jobOf job) (lentOf t rs)
+    begun all t rs t₁ rs₁ m₂ m₃ long long-reasons clear clear-reasons given looped =
+        rw (looped, given, clear, clear-reasons, states-counted, all)
+        (all-written job ok (lentOf t rs) long long-reasons)

@@ -7,7 +7,7 @@ use Rattle.grammar.proofs.Basics.{not-true-false}
 use Rattle.grammar.proofs.Meetings.{Test}
 use Rattle.job.specs.declared.JobRecord.{JobRecord}
 use Rattle.job.specs.Format.{byteT, same, has}
-use Rattle.job.specs.Clear.{cleared}
+use Rattle.job.specs.Written.{cleared}
 use Rattle.job.specs.Job.{transitionRecord}
 use Rattle.job.proofs.Members.{same-equal}
 use Rattle.machine.specs.Table.{Lent, lentOf, tableSize, reasonsSize, toState, reasonState, reasonVariable}

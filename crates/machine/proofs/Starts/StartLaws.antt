@@ -8,7 +8,7 @@ use Rattle.grammar.specs.Automaton.{Holds}
 use Rattle.grammar.specs.Closure.{Closure}
 use Rattle.grammar.proofs.Counting.{count-none}
 use Rattle.job.specs.Job.{Job}
-use Rattle.machine.specs.Table.{Lent, KeepsRest, tableSize, reasonsSize, place, reasonPlace, Status, Statuses}
+use Rattle.machine.specs.Table.{Lent, KeepsRest, tableSize, reasonsSize, tablePlace, reasonPlace, Status, Statuses}
 use Rattle.machine.specs.Table.{isAbsentAt, isDoneAt, doneIn, statuses, givenReason, when, doneCount}
 use Rattle.machine.specs.Start.{emptyReason, isEmptyAt, started}
 use Rattle.job.specs.Theorems.InRange.{InRange}
@@ -47,13 +47,13 @@ module _ (J : Job) (m : Lent) (long : tableSize ≤ length (m .table)) where
   shown = statuses (started J m .table)
 
   module _ (q X r : ℕ) (ql : q < 32) (xl : X < 64) (rl : r < 32) where
-    started-says : shown (place q X r) ≡ cond (isThere q X r) Status.pending Status.absent
+    started-says : shown (tablePlace q X r) ≡ cond (isThere q X r) Status.pending Status.absent
     unfolding started statuses
     started-says =
         rw (laid-at bytes (λ q X r old. cond (isThere q X r) 1 0) (m .table) q X r long ql xl rl)
         (cases (isThere q X r) (λ e. rw e) (λ e. rw e))
 
-    pub started-absent : isAbsentAt shown (place q X r) ≡ not (isThere q X r)
+    pub started-absent : isAbsentAt shown (tablePlace q X r) ≡ not (isThere q X r)
     started-absent = rw started-says (cases (isThere q X r) (λ e. rw e) (λ e. rw e))
 
     -- at the start a transition is there if it is given or made by an E rule
@@ -63,7 +63,7 @@ module _ (J : Job) (m : Lent) (long : tableSize ≤ length (m .table)) where
     there-started : isThere q X r ≡ true → There shown q X r
     there-started e = started-absent ∙ rw e
 
-    not-done : isDoneAt shown (place q X r) ≡ false
+    not-done : isDoneAt shown (tablePlace q X r) ≡ false
     not-done = rw started-says (cases (isThere q X r) (λ e. rw e) (λ e. rw e))
 
     pub not-done-at : {P : Type 0} → doneIn shown q X r ≡ true → P

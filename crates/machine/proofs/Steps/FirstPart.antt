@@ -8,7 +8,7 @@ use Rattle.grammar.specs.Rule.{Rule, empty, unit, pair}
 use Rattle.grammar.proofs.Meetings.{Test, AgreeBelow, meetings-cong}
 use Rattle.job.specs.Job.{Job}
 use Rattle.job.specs.Theorems.InRange.{RuleInRange}
-use Rattle.machine.specs.Table.{Lent, lentOf, tableSize, reasonsSize, place, fromState, symbolAt, toState}
+use Rattle.machine.specs.Table.{Lent, lentOf, tableSize, reasonsSize, tablePlace, fromState, symbolAt, toState}
 use Rattle.machine.specs.Table.{reasonState, reasonVariable, Statuses, saysPending, saysDone, doneIn, doneAt}
 use Rattle.machine.specs.Table.{saysAbsent, byteStatus, statuses, lesser, entryOf, each}
 use Rattle.machine.specs.Start.{startByte, startReason, started}
@@ -66,7 +66,7 @@ module _ (v w : Statuses) (agree : (p : ℕ) → p < tableSize → v p ≡ w p) 
 
       pub comes-in-agree : (a A b : ℕ) → a < 32 → A < 64 → b < 32 → comesIn ρs v p a A b ≡ comesIn ρs w p a A b
       comes-in-agree a A b al Al bl =
-          ap₂ (λ s n. saysAbsent s && leb 1 n) (agree (place a A b) (omega arith)) (offered-agree a A b al bl)
+          ap₂ (λ s n. saysAbsent s && leb 1 n) (agree (tablePlace a A b) (omega arith)) (offered-agree a A b al bl)
 
       byte-agree : (i old : ℕ) → i < tableSize → byteAfter ρs v p i old ≡ byteAfter ρs w p i old
       byte-agree i old h =

@@ -5,7 +5,7 @@ use Rattle.grammar.proofs.Basics.{List, ℕ, _<_, _≤_, arith, eqb, leb, ltb, 
 use Rattle.grammar.proofs.Basics.{ltb-true, ltb-false, and-left, cases}
 use lib.ListN.{List·getD-eq-default}
 use Rattle.grammar.specs.Rule.{Rule}
-use Rattle.machine.specs.Table.{Lent, tableSize, place, fromState, symbolAt, toState, Status, byteStatus}
+use Rattle.machine.specs.Table.{Lent, tableSize, tablePlace, fromState, symbolAt, toState, Status, byteStatus}
 use Rattle.machine.specs.Table.{saysAbsent, saysPending, isAbsentAt, statusByte, statuses}
 use Rattle.machine.specs.Step.{lowest, isFinished, comesIn, taking}
 use Rattle.machine.specs.Advance.{steps}
@@ -99,7 +99,7 @@ taking-moves ρs m unfinished i =
     (λ e. rw e (inl refl))
     (λ e.
     let l : i < tableSize = leb-false tableSize i e in
-    let back : place (fromState i) (symbolAt i) (toState i) ≡ i = omega arith in
+    let back : tablePlace (fromState i) (symbolAt i) (toState i) ≡ i = omega arith in
     moved-byte (leb tableSize i) (eqb i (lowest (said m)))
     (comesIn ρs (said m) (lowest (said m)) (fromState i) (symbolAt i) (toState i)) (getD (m .table) i 0)
     (λ t. rw (eqb-true i _ t) (lowest-is-pending (said m) unfinished))

@@ -5,7 +5,7 @@ use Rattle.grammar.proofs.Basics.{suc, arith, eqb, leb, getD, eq-eqb, ne-eqb, e
 use Rattle.grammar.proofs.Basics.{and-left, true-and-false}
 use Rattle.grammar.specs.Rule.{Rule}
 use Rattle.grammar.proofs.Counting.{count-one-more}
-use Rattle.machine.specs.Table.{tableSize, place, fromState, symbolAt, toState, reasonPlace, Status, Statuses}
+use Rattle.machine.specs.Table.{tableSize, tablePlace, fromState, symbolAt, toState, reasonPlace, Status, Statuses}
 use Rattle.machine.specs.Table.{saysAbsent, saysDone, isAbsentAt, isPendingAt, isDoneAt, doneCount, entryOf}
 use Rattle.machine.specs.Step.{offered, comesIn, statusAfter, turnOf}
 use Rattle.machine.proofs.Tables.Places.{place-of-parts, from-state-place, symbol-at-place, to-state-place}
@@ -74,15 +74,15 @@ module _ {ρs : List Rule} {v : Statuses} {p : ℕ} {v' : Statuses} (taken : Tak
 
   -- by transitions
   module _ (q X r : ℕ) (ql : q < 32) (xl : X < 64) (rl : r < 32) where
-    at-transition : v' (place q X r) ≡ changed (v (place q X r)) (eqb (place q X r) p) (leb 1 (offered ρs v p q X r))
-    at-transition = rw (from-state-place, symbol-at-place, to-state-place) at (after-at (place q X r) (omega arith))
+    at-transition : v' (tablePlace q X r) ≡ changed (v (tablePlace q X r)) (eqb (tablePlace q X r) p) (leb 1 (offered ρs v p q X r))
+    at-transition = rw (from-state-place, symbol-at-place, to-state-place) at (after-at (tablePlace q X r) (omega arith))
 
-    pub offered-comes : 1 ≤ offered ρs v p q X r → isAbsentAt v' (place q X r) ≡ false
+    pub offered-comes : 1 ≤ offered ρs v p q X r → isAbsentAt v' (tablePlace q X r) ≡ false
     offered-comes o = rw at-transition (offered-there (v _) (eqb _ p) _ (le-leb 1 _ o))
 
     -- what is there after the step was taken, was there, or came in
-    pub comes-from : isAbsentAt v' (place q X r) ≡ false →
-        (place q X r ≡ p) ⊎ ((isAbsentAt v (place q X r) ≡ false) ⊎ (1 ≤ offered ρs v p q X r))
+    pub comes-from : isAbsentAt v' (tablePlace q X r) ≡ false →
+        (tablePlace q X r ≡ p) ⊎ ((isAbsentAt v (tablePlace q X r) ≡ false) ⊎ (1 ≤ offered ρs v p q X r))
     comes-from e =
         cases (eqb _ p)
         (λ f. inl (eqb-true _ p f))

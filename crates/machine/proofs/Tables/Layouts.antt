@@ -2,9 +2,9 @@
 -- reasons are two layouts, read and written by the same laws. Assumes nothing.
 use Rattle.grammar.proofs.Basics.{_≡_, _∙_, sym, cond, List, ℕ, _<_, _≤_, arith, leb, length, getD, set, leb-true}
 use Rattle.grammar.proofs.Basics.{leb-false, lt-leb, cases}
-use Rattle.job.specs.Clear.{cleared}
+use Rattle.job.specs.Written.{cleared}
 use Rattle.job.proofs.Clearing.{cleared-length, cleared-front, cleared-rest}
-use Rattle.machine.specs.Table.{tableSize, reasonsSize, place, fromState, symbolAt, toState, reasonPlace}
+use Rattle.machine.specs.Table.{tableSize, reasonsSize, tablePlace, fromState, symbolAt, toState, reasonPlace}
 use Rattle.machine.specs.Table.{reasonState, reasonVariable, each}
 use Rattle.machine.proofs.Tables.Each.{getD-each-0, each-is, set-each}
 
@@ -24,7 +24,7 @@ bytes =
     record {
       size = tableSize;
       symbols = 64;
-      at = place;
+      at = tablePlace;
       from = fromState;
       symbol = symbolAt;
       whole = λ k h. omega arith;

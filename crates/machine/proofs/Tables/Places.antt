@@ -1,18 +1,18 @@
 -- A place and its three parts determine each other: division by 2048 and 32 takes apart what the sum put together.
 -- Assumes nothing.
 use Rattle.grammar.proofs.Basics.{_≡_, ℕ, _<_, arith}
-use Rattle.machine.specs.Table.{tableSize, reasonsSize, place, fromState, symbolAt, toState, reasonPlace}
+use Rattle.machine.specs.Table.{tableSize, reasonsSize, tablePlace, fromState, symbolAt, toState, reasonPlace}
 use Rattle.machine.specs.Table.{reasonState, reasonVariable}
 
 -- a place in the table decodes to its parts
 module _ (q X r : ℕ) (xl : X < 64) (rl : r < 32) where
-  pub from-state-place : fromState (place q X r) ≡ q
+  pub from-state-place : fromState (tablePlace q X r) ≡ q
   from-state-place = omega arith
 
-  pub symbol-at-place : symbolAt (place q X r) ≡ X
+  pub symbol-at-place : symbolAt (tablePlace q X r) ≡ X
   symbol-at-place = omega arith
 
-pub to-state-place : (q X r : ℕ) → r < 32 → toState (place q X r) ≡ r
+pub to-state-place : (q X r : ℕ) → r < 32 → toState (tablePlace q X r) ≡ r
 to-state-place q X r rl = omega arith
 
 -- its parts are in range, and make it up again
@@ -25,19 +25,19 @@ symbol-at-below p = omega arith
 pub to-state-below : (p : ℕ) → toState p < 32
 to-state-below p = omega arith
 
-pub place-of-parts : (p : ℕ) → p < tableSize → place (fromState p) (symbolAt p) (toState p) ≡ p
+pub place-of-parts : (p : ℕ) → p < tableSize → tablePlace (fromState p) (symbolAt p) (toState p) ≡ p
 place-of-parts p l = omega arith
 
-pub place-below : (q X r : ℕ) → q < 32 → X < 64 → r < 32 → place q X r < tableSize
+pub place-below : (q X r : ℕ) → q < 32 → X < 64 → r < 32 → tablePlace q X r < tableSize
 place-below q X r ql xl rl = omega arith
 
 -- different transitions have different places
 pub place-injective : (q X r q' X' r' : ℕ) → X < 64 → r < 32 → X' < 64 → r' < 32 →
-    place q X r ≡ place q' X' r' → (q ≡ q') × (X ≡ X') × (r ≡ r')
+    tablePlace q X r ≡ tablePlace q' X' r' → (q ≡ q') × (X ≡ X') × (r ≡ r')
 place-injective q X r q' X' r' xl rl xl' rl' e = omega arith
 
 -- a property of the places below 65,536 is one of the transitions
-pub by-parts : (P : ℕ → Type 0) → ((q X r : ℕ) → q < 32 → X < 64 → r < 32 → P (place q X r)) →
+pub by-parts : (P : ℕ → Type 0) → ((q X r : ℕ) → q < 32 → X < 64 → r < 32 → P (tablePlace q X r)) →
     (p : ℕ) → p < tableSize → P p
 by-parts P f p l =
     rw place-of-parts at (f (fromState p) (symbolAt p) (toState p) (omega arith) (omega arith) (omega arith))

@@ -8,7 +8,7 @@ use lib.ListN.{set}
 use Rattle.grammar.specs.Rule.{Rule, empty, unit, pair}
 use Rattle.job.specs.declared.JobRecord.{JobRecord}
 use Rattle.job.specs.Format.{byteT}
-use Rattle.machine.specs.Table.{Lent, place, reasonPlace, givenReason, reasonOf}
+use Rattle.machine.specs.Table.{Lent, tablePlace, reasonPlace, givenReason, reasonOf}
 use Rattle.machine.specs.Inside.Offers.{offerTo, addOffer}
 
 -- a T record's transition has a place in the table
@@ -20,7 +20,7 @@ unfoldable pub giving : JobRecord → Lent → Lent
 giving r m =
     cond (eqb (r .kind) byteT)
     (record {
-      table = set (m .table) (place (r .first) (r .second) (r .third)) 1;
+      table = set (m .table) (tablePlace (r .first) (r .second) (r .third)) 1;
       reasons =
           cond (ltb (r .second) 32) (set (m .reasons) (reasonPlace (r .first) (r .second) (r .third)) givenReason)
           (m .reasons);

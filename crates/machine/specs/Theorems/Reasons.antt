@@ -7,7 +7,7 @@ use Prim.Native.Nat.{ℕ, _≤_, _<_}
 use lib.ListN.{length, getD}
 use Rattle.grammar.specs.Rule.{Rule, empty, unit, pair}
 use Rattle.job.specs.Job.{Job}
-use Rattle.machine.specs.Table.{Lent, tableSize, place, reasonPlace, Statuses, isAbsentAt, isDoneAt, doneIn}
+use Rattle.machine.specs.Table.{Lent, tableSize, tablePlace, reasonPlace, Statuses, isAbsentAt, isDoneAt, doneIn}
 use Rattle.machine.specs.Table.{doneCount, statuses, givenReason, reasonOf, reasonIn, turnAt}
 use Rattle.machine.specs.Start.{started}
 use Rattle.machine.specs.Advance.{steps}
@@ -21,7 +21,7 @@ RuleAt ρs rank ρ = (rank < length ρs) × (getD ρs rank (empty 0) ≡ ρ)
 -- Forms and listings: a premise is done, and its turn is before that of what it explains
 pub record Premise (done : ℕ → ℕ → ℕ → Bool) (turn : ℕ → ℕ) (above q X r : ℕ) : Type 0 where
   pub is-done : done q X r ≡ true
-  pub earlier : turn (place q X r) < turn above
+  pub earlier : turn (tablePlace q X r) < turn above
 
 -- Table and machine, Forms and listings: what the reason n of the transition (q, A, r) says. A given transition and
 -- that of an E rule have no premise, that of a U rule one, that of a P rule two, which meet at the middle.
@@ -32,11 +32,11 @@ pub data Reason (J : Job) (done : ℕ → ℕ → ℕ → Bool) (turn : ℕ → 
       q < J .states → Reason J done turn q A r n
   by-unit :
       (rank X : ℕ) → J .given q A r ≡ false → n ≡ reasonOf rank 0 → RuleAt (J .rules) rank (unit A X) →
-      Premise done turn (place q A r) q X r → Reason J done turn q A r n
+      Premise done turn (tablePlace q A r) q X r → Reason J done turn q A r n
   by-pair :
       (rank X Y middle : ℕ) → J .given q A r ≡ false → n ≡ reasonOf rank middle → middle < 32 →
-      RuleAt (J .rules) rank (pair A X Y) → Premise done turn (place q A r) q X middle →
-      Premise done turn (place q A r) middle Y r → Reason J done turn q A r n
+      RuleAt (J .rules) rank (pair A X Y) → Premise done turn (tablePlace q A r) q X middle →
+      Premise done turn (tablePlace q A r) middle Y r → Reason J done turn q A r n
 
 -- Every transition of a variable that is pending or done has a reason that fits, every absent one has none. The
 -- turns of done places are below their number, so no chain of reasons has more of them.
@@ -44,10 +44,10 @@ pub record ReasonsFit (J : Job) (v : Statuses) (reasons : List ℕ) : Type 0 whe
   pub bounded : (p : ℕ) → p < tableSize → isAbsentAt v p ≡ false → turnAt reasons p ≤ doneCount v
   pub done-bounded : (p : ℕ) → p < tableSize → isDoneAt v p ≡ true → turnAt reasons p < doneCount v
   pub fits :
-      (q A r : ℕ) → q < 32 → A < 32 → r < 32 → isAbsentAt v (place q A r) ≡ false →
+      (q A r : ℕ) → q < 32 → A < 32 → r < 32 → isAbsentAt v (tablePlace q A r) ≡ false →
       Reason J (doneIn v) (turnAt reasons) q A r (reasonIn (getD reasons (reasonPlace q A r) 0))
   pub none :
-      (q A r : ℕ) → q < 32 → A < 32 → r < 32 → isAbsentAt v (place q A r) ≡ true →
+      (q A r : ℕ) → q < 32 → A < 32 → r < 32 → isAbsentAt v (tablePlace q A r) ≡ true →
       getD reasons (reasonPlace q A r) 0 ≡ 0
 
 -- Table and machine: after a start and any number of steps the reasons fit

@@ -1,7 +1,7 @@
 -- An L record's body is converted; any other record is written as it is. Assumes nothing.
 use Rattle.grammar.proofs.Basics.{refl, _∙_, sym, arith, needs}
-use Rattle.binarize.proofs.Buffer.{appended}
-use Rattle.binarize.proofs.ConversionSteps.{converted-long, converted-short, body-few}
+use Rattle.long_jobs.proofs.Buffer.{appended}
+use Rattle.long_jobs.proofs.ConversionSteps.{converted-long, converted-short, body-few}
 use Rattle.binarize.proofs.convert.convert.Statement.{statement}
 use Rattle.binarize.proofs.convert.convert.Tie as tie
 

@@ -1,7 +1,7 @@
 -- A body of none or one is written as its rule; a longer one is split. Assumes nothing.
 use Rattle.grammar.proofs.Basics.{arith, needs}
-use Rattle.binarize.proofs.Buffer.{appended}
-use Rattle.binarize.proofs.ConversionSteps.{short-written}
+use Rattle.long_jobs.proofs.Buffer.{appended}
+use Rattle.long_jobs.proofs.ConversionSteps.{short-written}
 use Rattle.binarize.proofs.convert.convert_long.Statement.{statement}
 use Rattle.binarize.proofs.convert.convert_long.Tie as tie
 

@@ -1,7 +1,7 @@
 -- The two cases of a body of none or one. Assumes nothing.
 use Rattle.grammar.proofs.Basics.{_≡_, refl, List, _∷_, [], ℕ, arith, length, getD, needs}
 use Rattle.job.specs.Job.{emptyRecord, unitRecord}
-use Rattle.binarize.specs.Inside.Parts.{shortRule}
+use Rattle.long_jobs.specs.Inside.Parts.{shortRule}
 use Rattle.binarize.proofs.convert.short_rule.Statement.{statement}
 use Rattle.binarize.proofs.convert.short_rule.Tie as tie
 

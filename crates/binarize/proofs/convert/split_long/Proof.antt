@@ -1,7 +1,7 @@
 -- The invariant: the rest of the body, split from here, comes to what the whole body comes to. Assumes nothing.
 use Rattle.grammar.proofs.Basics.{_≡_, _-_, _+_, arith, length, needs}
-use Rattle.binarize.proofs.Buffer.{appended}
-use Rattle.binarize.proofs.ConversionSteps.{Splitting, splitting-none, splitting-more, splitting-all}
+use Rattle.long_jobs.proofs.Buffer.{appended}
+use Rattle.long_jobs.proofs.ConversionSteps.{Splitting, splitting-none, splitting-more, splitting-all}
 use Rattle.binarize.proofs.convert.split_long.Statement.{statement}
 use Rattle.binarize.proofs.convert.split_long.Tie as tie
 

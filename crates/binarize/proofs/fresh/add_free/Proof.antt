@@ -1,9 +1,9 @@
 -- `fresh::add_free`: a variable that no record names comes behind those in front. Assumes nothing.
 use Rattle.grammar.proofs.Basics.{_≡_, _∙_, sym, true, false, Bool, List, ℕ, _<_, _+_, suc, arith, set, needs}
-use Rattle.binarize.specs.Dialect.{textRecords}
-use Rattle.binarize.specs.Fresh.{isNamed, unnamedBelow}
-use Rattle.binarize.specs.Inside.Parts.{InFront}
-use Rattle.binarize.proofs.Front.{named-below, unnamed-below, unnamed-few, one-more-in-front}
+use Rattle.long_jobs.specs.Dialect.{longRecords}
+use Rattle.long_jobs.specs.Fresh.{isNamed, unnamedBelow}
+use Rattle.long_jobs.specs.Inside.Parts.{InFront}
+use Rattle.long_jobs.proofs.Front.{named-below, unnamed-below, unnamed-few, one-more-in-front}
 use Rattle.binarize.proofs.fresh.add_free.Statement.{statement}
 use Rattle.binarize.proofs.fresh.add_free.Tie as tie
 
@@ -25,7 +25,7 @@ room c = let p = c .before .before .before .pre .1 in few _ _ _ _ (p .1) (p .0)
 returns-2 : tie.Need-returns-2
 returns-2 c =
     let s = c .before .before .before in
-    one-more (textRecords (s .args .text .now)) _ _ (s .args .v) (s .pre .1 .1) _ (c .before .is-named .ensures)
+    one-more (longRecords (s .args .source .now)) _ _ (s .args .v) (s .pre .1 .1) _ (c .before .is-named .ensures)
     (c .if1 .left) (s .pre .1 .0)
 
 pub add-free-spec : {M : Type 1} → statement M

@@ -2,7 +2,7 @@
 use Rattle.grammar.proofs.Basics.{_≡_, true, false, Bool, ℕ, eqb, needs}
 use Rattle.job.specs.declared.FieldClass.{FieldClass}
 use Rattle.job.specs.Format.{fieldClasses, classAt}
-use Rattle.binarize.specs.Fresh.{holdsSymbol, fieldNames}
+use Rattle.long_jobs.specs.Fresh.{holdsSymbol, fieldNames}
 use Rattle.binarize.proofs.fresh.field_names.Statement.{statement}
 use Rattle.binarize.proofs.fresh.field_names.Tie as tie
 

@@ -1,8 +1,8 @@
 -- `fresh::holds`. The invariant: v is not among the bytes before i, so those from i on decide. Assumes nothing.
 use Rattle.grammar.proofs.Basics.{_≡_, refl, _∙_, true, false, List, ℕ, _<_, _≤_, _+_, _-_, arith, length, getD, drop}
 use Rattle.grammar.proofs.Basics.{eq-eqb, ne-eqb}
-use Rattle.binarize.specs.Fresh.{holds}
-use Rattle.binarize.proofs.Remaining.{one-remains, none-remains}
+use Rattle.long_jobs.specs.Fresh.{holds}
+use Rattle.long_jobs.proofs.Remaining.{one-remains, none-remains}
 use Rattle.binarize.proofs.fresh.holds.Statement.{statement}
 use Rattle.binarize.proofs.fresh.holds.Tie as tie
 

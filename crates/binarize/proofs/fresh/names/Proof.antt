@@ -2,9 +2,9 @@
 -- nothing.
 use Rattle.grammar.proofs.Basics.{_≡_, true, false, Bool, List, ℕ, eq-eqb, ne-eqb, needs}
 use Rattle.job.specs.declared.JobRecord.{JobRecord}
-use Rattle.binarize.specs.Dialect.{isLong, headOf, bodyOf, shortOf}
-use Rattle.binarize.specs.Fresh.{shortNames, holds, names}
-use Rattle.binarize.proofs.Formed.{known-kind}
+use Rattle.long_jobs.specs.Dialect.{isLong, headOf, bodyOf, shortOf}
+use Rattle.long_jobs.specs.Fresh.{shortNames, holds, names}
+use Rattle.long_jobs.proofs.Formed.{known-kind}
 use Rattle.binarize.proofs.fresh.names.Statement.{statement}
 use Rattle.binarize.proofs.fresh.names.Tie as tie
 

@@ -2,7 +2,7 @@
 use Rattle.grammar.proofs.Basics.{_≡_, true, false, Bool, ℕ, needs}
 use Rattle.job.specs.declared.JobRecord.{JobRecord}
 use Rattle.job.specs.Format.{fieldClasses, rowOf, classAt}
-use Rattle.binarize.specs.Fresh.{fieldNames, shortNames}
+use Rattle.long_jobs.specs.Fresh.{fieldNames, shortNames}
 use Rattle.binarize.proofs.fresh.short_names.Statement.{statement}
 use Rattle.binarize.proofs.fresh.short_names.Tie as tie
 

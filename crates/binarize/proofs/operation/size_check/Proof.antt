@@ -2,7 +2,7 @@
 use Rattle.grammar.proofs.Basics.{_≡_, ℕ, _<_, _≤_, _*_, lt-ltb, le-ltb, needs}
 use Rattle.job.specs.declared.Checked.{Checked}
 use Rattle.job.specs.Check.{refused, roomCheck}
-use Rattle.binarize.specs.Operation.{sizeCheck}
+use Rattle.long_jobs.specs.Operation.{sizeCheck}
 use Rattle.binarize.proofs.operation.size_check.Statement.{statement}
 use Rattle.binarize.proofs.operation.size_check.Tie as tie
 

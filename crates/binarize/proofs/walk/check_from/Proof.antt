@@ -5,8 +5,8 @@ use native.Mathlib.Nat.{sub-zero}
 use Rattle.job.specs.Format.{recordsOf}
 use Rattle.job.proofs.Records.{records-counted}
 use Rattle.job.proofs.Bytes.{records-in-front}
-use Rattle.binarize.specs.Inside.Parts.{faultOf}
-use Rattle.binarize.proofs.WrittenFault.{Tried, fault-found, tried-more, no-fault, all-counted}
+use Rattle.long_jobs.specs.Inside.Parts.{faultOf}
+use Rattle.long_jobs.proofs.WrittenFault.{Tried, fault-found, tried-more, no-fault, all-counted}
 use Rattle.binarize.proofs.walk.check_from.Statement.{statement}
 use Rattle.binarize.proofs.walk.check_from.Tie as tie
 

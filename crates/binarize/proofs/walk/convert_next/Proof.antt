@@ -1,7 +1,7 @@
 -- `walk::convert_next`: the record is converted, then 14, 5 and 7 are tried. Assumes nothing.
 use Rattle.grammar.proofs.Basics.{needs}
-use Rattle.binarize.specs.Walk.{inTurn}
-use Rattle.binarize.proofs.WalkSteps.{stepped-too-far, part-ready, stepped}
+use Rattle.long_jobs.specs.Walk.{nextFree}
+use Rattle.long_jobs.proofs.WalkSteps.{stepped-too-far, part-ready, stepped}
 use Rattle.binarize.proofs.walk.convert_next.Statement.{statement}
 use Rattle.binarize.proofs.walk.convert_next.Tie as tie
 
@@ -10,13 +10,13 @@ returns c =
     let p = c .before .before .before .before in
     let s = p .before .before .before .before in
     let r = p .convert .ensures in
-    (stepped-too-far _ _ (inTurn (s .args .free .now)) _ _ _ (s .pre .1) _ _ r (c .if1 .taken), r .out-size)
+    (stepped-too-far _ _ (nextFree (s .args .free .now)) _ _ _ (s .pre .1) _ _ r (c .if1 .taken), r .out-size)
 
 check-from-requires : tie.Need-check-from-requires
 check-from-requires c κs =
     let p = c .before .before .before .before .before .before .before in
     let s = p .before .before .before .before in
-    part-ready _ _ (inTurn (s .args .free .now)) _ _ _ (s .pre .1) _ _ (p .convert .ensures) (s .pre .0 .1)
+    part-ready _ _ (nextFree (s .args .free .now)) _ _ _ (s .pre .1) _ _ (p .convert .ensures) (s .pre .0 .1)
 
 returns-2 : tie.Need-returns-2
 returns-2 c =
@@ -24,7 +24,7 @@ returns-2 c =
     let p = e .before .before .before .before in
     let s = p .before .before .before .before in
     let r = p .convert .ensures in (
-      stepped _ _ (inTurn (s .args .free .now)) _ _ _ (s .pre .1) _ _ r (s .pre .0 .1) _ (e .if1 .left)
+      stepped _ _ (nextFree (s .args .free .now)) _ _ _ (s .pre .1) _ _ r (s .pre .0 .1) _ (e .if1 .left)
           (c .check-from .ensures .0) (c .check-from .ensures .1),
       r .out-size,
     )

@@ -1,24 +1,24 @@
 -- `walk::walk`. The invariant: the definition's walk over the records from i on, from the conversion that the code's
 -- numbers and buffer say, comes to what the whole walk comes to. Assumes nothing.
 use Rattle.grammar.proofs.Basics.{_≡_, sym, _<_, _≤_, _-_, arith, length, needs}
-use Rattle.binarize.specs.Dialect.{textRecords}
-use Rattle.binarize.proofs.TextRecords.{text-records-counted, of-twelve-bytes}
-use Rattle.binarize.proofs.Front.{none-in-front}
-use Rattle.binarize.proofs.WalkSteps.{Walking, walking-none, walking-more, walked-refused, walked-all}
+use Rattle.long_jobs.specs.Dialect.{longRecords}
+use Rattle.long_jobs.proofs.LongRecords.{long-records-counted, of-twelve-bytes}
+use Rattle.long_jobs.proofs.Front.{none-in-front}
+use Rattle.long_jobs.proofs.WalkSteps.{Walking, walking-none, walking-more, walked-refused, walked-all}
 use Rattle.binarize.proofs.walk.walk.Statement.{statement}
 use Rattle.binarize.proofs.walk.walk.Tie as tie
 
 abbrev Inv-loop : tie.InvT-loop
-Inv-loop text written₀ free available s₀ count i₀ written s i =
-    (i ≤ count) × (count ≡ length (textRecords text)) × Walking (textRecords text) free available i s written
+Inv-loop longJob written₀ free available s₀ count i₀ written s i =
+    (i ≤ count) × (count ≡ length (longRecords longJob)) × Walking (longRecords longJob) free available i s written
 
 abbrev μ-loop : tie.MeasureT-loop
-μ-loop text written₀ free available s₀ count i₀ written s i = count - i
+μ-loop longJob written₀ free available s₀ count i₀ written s i = count - i
 
 loop-holds : tie.Need-loop-holds Inv-loop μ-loop
 loop-holds c = (
   omega arith,
-  sym (text-records-counted _),
+  sym (long-records-counted _),
   walking-none _ _ _ _ (c .fill-free .ensures) (c .before .before .before .before .pre .2),
 )
 
@@ -27,10 +27,10 @@ convert-next-requires c κs =
     let r = c .before .before in
     let l = r .before .before in
     let s = l .before .before .before .before .before in
-    let text = s .args .text .now in
+    let longJob = s .args .source .now in
     let i = l .loop .i in
-    let h : i < length (textRecords text) = omega arith in (
-      (of-twelve-bytes text i h _ (r .record-at .ensures), omega (arith, text-records-counted text, s .pre .0)),
+    let h : i < length (longRecords longJob) = omega arith in (
+      (of-twelve-bytes longJob i h _ (r .record-at .ensures), omega (arith, long-records-counted longJob, s .pre .0)),
       l .loop .inv .2 .underway,
     )
 

@@ -2,7 +2,7 @@
 use Rattle.grammar.proofs.Basics.{_≡_, true, false, Bool, List, ℕ, _<_, _≤_, le-leb, lt-leb, needs}
 use Rattle.job.specs.declared.JobRecord.{JobRecord}
 use Rattle.job.specs.Format.{isRule, has}
-use Rattle.binarize.specs.Inside.Parts.{faultOf}
+use Rattle.long_jobs.specs.Inside.Parts.{faultOf}
 use Rattle.binarize.proofs.walk.written_fault.Statement.{statement}
 use Rattle.binarize.proofs.walk.written_fault.Tie as tie
 

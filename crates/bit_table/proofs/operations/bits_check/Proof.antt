@@ -1,11 +1,12 @@
--- `operations::bits_check` meets its contract: each way out is one of the tests that `bitsCheck` makes in turn.
--- Assumes nothing.
-use Rattle.grammar.proofs.Basics.{_∙_, needs}
-use Rattle.bit_machine.proofs.RunChecks.{short-bits, bits-short-reasons, bits-long-enough}
+-- `operations::bits_check` meets its contract: the buffers and then the job, as `bitsCheck` has them. Assumes nothing.
+use Rattle.grammar.proofs.Basics.{needs}
+use Rattle.bit_machine.specs.Operations.{bitsCheckBy}
 use Rattle.bit_table.proofs.operations.bits_check.Statement.{statement}
 use Rattle.bit_table.proofs.operations.bits_check.Tie as tie
 
+returns : tie.Need-returns
+unfolding bitsCheckBy
+returns c = rw (c .before .short-lent .ensures) at (c .call-check .ensures)
+
 pub bits-check-spec : {M : Type 1} → statement M
-bits-check-spec = tie.close (tie.spec (λ c. search (short-bits, needs)) (λ c. search (bits-short-reasons, needs))
-    (λ c κs. search needs) (λ c κs. search needs)
-    (λ c. rw (c .before .full-limits .ensures) at (c .check .ensures) ∙ search (bits-long-enough, needs)))
+bits-check-spec = tie.close (tie.spec (λ c κs. search needs) (λ c κs. search needs) returns)

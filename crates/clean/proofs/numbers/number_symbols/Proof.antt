@@ -7,7 +7,7 @@ use Rattle.job.specs.Written.{written}
 use Rattle.job.proofs.Filling.{written-long, written-more, written-at}
 use Rattle.usefulness.specs.Inside.Flags.{flagged}
 use Rattle.usefulness.proofs.Raising.{counted-more}
-use Rattle.clean.specs.Copy.{newNumber}
+use Rattle.copies.specs.Copy.{newNumber}
 use Rattle.clean.proofs.numbers.number_symbols.Statement.{statement}
 use Rattle.clean.proofs.numbers.number_symbols.Tie as tie
 

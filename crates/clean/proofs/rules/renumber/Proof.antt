@@ -2,13 +2,13 @@
 use Rattle.grammar.proofs.Basics.{_≡_, List, ℕ, eq-eqb, ne-eqb, needs}
 use Rattle.job.specs.Format.{byteE, byteU}
 use Rattle.job.specs.Job.{emptyRecord, unitRecord, pairRecord}
-use Rattle.job.specs.declared.Rule as declared
+use Rattle.job.specs.declared.RuleFields as declared
 use Rattle.job.specs.Inside.Keys.{ruleFrom}
-use Rattle.clean.specs.Inside.Parts.{numberIn, renumberedRecord}
+use Rattle.copies.specs.Inside.Parts.{numberIn, renumberedRecord}
 use Rattle.clean.proofs.rules.renumber.Statement.{statement}
 use Rattle.clean.proofs.rules.renumber.Tie as tie
 
-module _ (numbers : List ℕ) (r : declared.Rule) where
+module _ (numbers : List ℕ) (r : declared.RuleFields) where
   of-empty : r .kind ≡ byteE → emptyRecord (numberIn numbers (r .head)) ≡ renumberedRecord numbers (ruleFrom r)
   unfolding ruleFrom
   of-empty e = rw (eq-eqb _ _ e)

@@ -1,6 +1,6 @@
 -- `copy_rows` writes the four rows one after the other. Assumes nothing.
 use Rattle.grammar.proofs.Basics.{add-zero, _+_, arith, length-set}
-use Rattle.bit_machine.specs.BitTable.{bytesOf}
+use Rattle.bit_machine.specs.BitTable.{tableOfBits}
 use Rattle.bit_machine.specs.Inside.Index.{RowIs, columnOf}
 use Rattle.bit_machine.proofs.Columns.{written-four}
 use Rattle.columns.proofs.turn.copy_rows.Statement.{statement}
@@ -11,7 +11,7 @@ returns c =
     let b = c .before in
     let a = b .before in
     let s = a .before .before .before .before in
-    written-four _ _ (λ i w. RowIs (columnOf (s .args .there) (bytesOf (s .args .bits .now))) (s .args .k + i) w)
+    written-four _ _ (λ i w. RowIs (columnOf (s .args .there) (tableOfBits (s .args .bits .now))) (s .args .k + i) w)
     (omega arith) (rw add-zero (a .before .column-row .ensures)) (a .column-row2 .ensures) (b .column-row3 .ensures)
     (c .column-row4 .ensures)
 

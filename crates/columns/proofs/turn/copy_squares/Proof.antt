@@ -1,6 +1,6 @@
 -- `copy_squares` copies state by state. The invariant: the rows of the first q states are copied. Assumes nothing.
 use Rattle.grammar.proofs.Basics.{_≡_, _≤_, _+_, _-_, _*_, _/_, _%_, arith}
-use Rattle.bit_machine.specs.BitTable.{bytesOf}
+use Rattle.bit_machine.specs.BitTable.{tableOfBits}
 use Rattle.bit_machine.specs.Inside.Index.{Written, RowIs, columnOf}
 use Rattle.bit_machine.proofs.Columns.{written-none, rows-copied}
 use Rattle.columns.proofs.turn.copy_squares.Statement.{statement}
@@ -9,7 +9,7 @@ use Rattle.columns.proofs.turn.copy_squares.Tie as tie
 abbrev Inv-loop : tie.InvT-loop
 Inv-loop bits there c words₀ q₀ words q =
     (q ≤ 32)
-    × Written words₀ words 0 (q * 8) (λ i w. RowIs (columnOf there (bytesOf bits)) (i / 8 * 64 + c * 8 + i % 8) w)
+    × Written words₀ words 0 (q * 8) (λ i w. RowIs (columnOf there (tableOfBits bits)) (i / 8 * 64 + c * 8 + i % 8) w)
 
 abbrev μ-loop : tie.MeasureT-loop
 μ-loop bits there c words₀ q₀ words q = 32 - q
@@ -30,7 +30,7 @@ loop-again c =
     let l = r .before .before .before in
     let s = l .before .before .before in (
       omega arith,
-      rows-copied (columnOf (s .args .there) (bytesOf (s .args .bits .now))) (s .args .c) (l .loop .q)
+      rows-copied (columnOf (s .args .there) (tableOfBits (s .args .bits .now))) (s .args .c) (l .loop .q)
           (l .loop .inv .1) (r .copy-rows .ensures) (u .copy-rows2 .ensures),
     )
 

@@ -1,6 +1,6 @@
 -- `turn_columns` goes group by group. The invariant: the columns of the first c groups are right. Assumes nothing.
 use Rattle.grammar.proofs.Basics.{_≡_, _∙_, _≤_, _-_, arith, length}
-use Rattle.bit_machine.specs.BitTable.{bytesOf}
+use Rattle.bit_machine.specs.BitTable.{tableOfBits}
 use Rattle.bit_machine.specs.Inside.Index.{ColumnsTurned, columnOf}
 use Rattle.bit_machine.proofs.Columns.{columns-none, columns-more}
 use Rattle.columns.proofs.turn.turn_columns.Statement.{statement}
@@ -8,7 +8,7 @@ use Rattle.columns.proofs.turn.turn_columns.Tie as tie
 
 abbrev Inv-loop : tie.InvT-loop
 Inv-loop bits there words₀ index₀ base c₀ words index c =
-    (c ≤ 8) × (length words ≡ 256) × ColumnsTurned index₀ index base 0 c (columnOf there (bytesOf bits))
+    (c ≤ 8) × (length words ≡ 256) × ColumnsTurned index₀ index base 0 c (columnOf there (tableOfBits bits))
 
 abbrev μ-loop : tie.MeasureT-loop
 μ-loop bits there words₀ index₀ base c₀ words index c = 8 - c

@@ -1,6 +1,6 @@
 -- `turn_group` leaves columns of zeros where no row has a one, and else writes the squares turned. Assumes nothing.
 use Rattle.grammar.proofs.Basics.{_∙_, arith}
-use Rattle.bit_machine.specs.BitTable.{bytesOf}
+use Rattle.bit_machine.specs.BitTable.{tableOfBits}
 use Rattle.bit_machine.specs.Inside.Index.{columnOf}
 use Rattle.bit_machine.proofs.Columns.{group-turned, group-blank}
 use Rattle.columns.proofs.turn.turn_group.Statement.{statement}
@@ -12,7 +12,7 @@ returns c =
     let k = b .before .before .before .before in
     let s = k .before .before .before .before .before in (
       k .copy-squares .ensures .long ∙ s .pre .0 .2,
-      group-blank (columnOf (s .args .there) (bytesOf (s .args .bits .now))) _ _ (s .pre .0 .0)
+      group-blank (columnOf (s .args .there) (tableOfBits (s .args .bits .now))) _ _ (s .pre .0 .0)
           (k .copy-squares .ensures) _ (b .is-blank .ensures (c .if1 .taken)) (s .pre .1),
     )
 
@@ -23,7 +23,7 @@ returns-2 c =
     let k = t .before .before .before .before .before .before .before in
     let s = k .before .before .before .before .before in (
       t .turn-squares .ensures .long ∙ k .copy-squares .ensures .long ∙ s .pre .0 .2,
-      group-turned (columnOf (s .args .there) (bytesOf (s .args .bits .now))) _ _ (s .pre .0 .0)
+      group-turned (columnOf (s .args .there) (tableOfBits (s .args .bits .now))) _ _ (s .pre .0 .0)
           (k .copy-squares .ensures) (t .turn-squares .ensures) (w .write-squares .ensures),
     )
 

@@ -2,15 +2,15 @@
 use mathlib.Core.Path.{refl}
 use Rattle.spelling.specs.Words.{digits, decimal}
 use Rattle.spelling.specs.Lines.{refusedLine, numberLine, answerLine, codeLine, lines}
-use Rattle.spelling.specs.Records.{transitionText, secondText, bodyText, reasonText, recordLine}
-use Rattle.printing.specs.Texts.{reportText, codesText, shownRecords, explainText}
+use Rattle.spelling.specs.Records.{transitionOutput, secondOutput, bodyOutput, reasonOutput, recordLine}
+use Rattle.printing.specs.Outputs.{reportOutput, codesOutput, shownRecords, explainOutput}
 use Rattle.printing.specs.Theorems.Printed.{AsPrinted}
 use Rattle.printing.proofs.theorems.as_printed.Statement.{statement}
 use Rattle.printing.proofs.theorems.as_printed.Tie as tie
 
 printed : AsPrinted
-unfolding digits decimal refusedLine numberLine answerLine codeLine lines transitionText secondText bodyText reasonText
-    recordLine reportText codesText shownRecords explainText
+unfolding digits decimal refusedLine numberLine answerLine codeLine lines transitionOutput secondOutput bodyOutput reasonOutput
+    recordLine reportOutput codesOutput shownRecords explainOutput
 printed =
     record { largest = refl; reported = refl; refused = refl; coded = refl; explained = refl; notAccepted = refl }
 

@@ -1,6 +1,6 @@
 -- `clear::clear_front`. The loop's invariant: the first i bytes are cleared. Assumes nothing.
 use Rattle.grammar.proofs.Basics.{_≡_, refl, _≤_, _-_, add-one, arith, length, length-set}
-use Rattle.job.specs.Clear.{cleared}
+use Rattle.job.specs.Written.{written, cleared}
 use Rattle.job.proofs.Clearing.{cleared-more}
 use Rattle.records.proofs.clear.clear_front.Statement.{statement}
 use Rattle.records.proofs.clear.clear_front.Tie as tie
@@ -12,7 +12,7 @@ abbrev μ-loop : tie.MeasureT-loop
 μ-loop table₀ n i₀ table i = n - i
 
 loop-holds : tie.Need-loop-holds Inv-loop μ-loop
-unfolding cleared
+unfolding cleared written
 loop-holds c = (omega arith, refl, refl)
 
 loop-again : tie.Need-loop-again Inv-loop μ-loop

@@ -3,19 +3,19 @@ use borrow.Author.Needs.{needs}
 use mathlib.Core.List.{append-assoc}
 use native.Mathlib.Omega.{arith}
 use borrow.Author.Tests.{eq-eqb, ne-eqb}
-use Rattle.spelling.specs.Records.{reasonText}
+use Rattle.spelling.specs.Records.{reasonOutput}
 use Rattle.spelling.proofs.Placing.{then, within}
 use Rattle.spelling.proofs.records.put_reason.Statement.{statement}
 use Rattle.spelling.proofs.records.put_reason.Tie as tie
 
 returns : tie.Need-returns
-unfolding reasonText
+unfolding reasonOutput
 returns c =
     rw (eq-eqb _ 71 (c .before .before .before .before .before .if1 .taken))
     (within (c .before .before .put-word .ensures) (omega arith))
 
 returns-2 : tie.Need-returns-2
-unfolding reasonText
+unfolding reasonOutput
 returns-2 c =
     rw (ne-eqb _ 71 (c .before .before .before .before .before .before .before .before .before .if1 .left))
     (simp append-assoc

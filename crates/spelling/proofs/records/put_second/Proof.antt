@@ -4,19 +4,19 @@ use mathlib.Core.List.{append-assoc}
 use native.Mathlib.Omega.{arith}
 use borrow.Author.Tests.{eq-eqb, ne-eqb}
 use Rattle.spelling.specs.Lines.{numberLine}
-use Rattle.spelling.specs.Records.{secondText}
+use Rattle.spelling.specs.Records.{secondOutput}
 use Rattle.spelling.proofs.Placing.{then, within}
 use Rattle.spelling.proofs.records.put_second.Statement.{statement}
 use Rattle.spelling.proofs.records.put_second.Tie as tie
 
 returns : tie.Need-returns
-unfolding secondText
+unfolding secondOutput
 returns c =
     rw (ne-eqb _ 80 (c .before .before .before .before .if1 .taken))
     (within (c .before .before .put .ensures) (omega arith))
 
 returns-2 : tie.Need-returns-2
-unfolding secondText numberLine
+unfolding secondOutput numberLine
 returns-2 c =
     let e = c .before .before .before .before .before .before .before in
     rw (eq-eqb _ 80 (e .before .before .if1 .left))

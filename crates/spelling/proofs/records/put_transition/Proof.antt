@@ -1,13 +1,13 @@
 -- `records::put_transition`: the state, then the symbol and the other state. Assumes nothing.
 use borrow.Author.Needs.{needs}
 use mathlib.Core.List.{append-assoc}
-use Rattle.spelling.specs.Records.{transitionText}
+use Rattle.spelling.specs.Records.{transitionOutput}
 use Rattle.spelling.proofs.Placing.{then}
 use Rattle.spelling.proofs.records.put_transition.Statement.{statement}
 use Rattle.spelling.proofs.records.put_transition.Tie as tie
 
 returns : tie.Need-returns
-unfolding transitionText
+unfolding transitionOutput
 returns c =
     let e = c .before .before .before .before .before .before in
     simp append-assoc

@@ -1,6 +1,6 @@
 -- `clear::clear_reasons` meets its contract. The loop's invariant: the first i reasons are cleared. Assumes nothing.
 use Rattle.grammar.proofs.Basics.{_≡_, refl, _≤_, _-_, add-one, arith, length, length-set}
-use Rattle.job.specs.Clear.{cleared}
+use Rattle.job.specs.Written.{written, cleared}
 use Rattle.job.proofs.Clearing.{cleared-more}
 use Rattle.transitions.proofs.clear.clear_reasons.Statement.{statement}
 use Rattle.transitions.proofs.clear.clear_reasons.Tie as tie
@@ -12,7 +12,7 @@ abbrev μ-loop : tie.MeasureT-loop
 μ-loop reasons₀ i₀ reasons i = 32768 - i
 
 loop-holds : tie.Need-loop-holds Inv-loop μ-loop
-unfolding cleared
+unfolding cleared written
 loop-holds c = (omega arith, refl, refl)
 
 pub clear-reasons-spec : {M : Type 1} → statement M

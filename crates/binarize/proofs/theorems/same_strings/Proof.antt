@@ -1,8 +1,0 @@
--- `binarize::theorems::same_strings` meets its contract: the taken variables stand for strings of the text. Assumes
--- nothing.
-use Rattle.binarize.proofs.SameStrings.{same-strings}
-use Rattle.binarize.proofs.theorems.same_strings.Statement.{statement}
-use Rattle.binarize.proofs.theorems.same_strings.Tie as tie
-
-pub same-strings-spec : {M : Type 1} → statement M
-same-strings-spec = tie.close (tie.spec (λ c. same-strings))

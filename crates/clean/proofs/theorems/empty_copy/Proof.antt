@@ -1,7 +1,0 @@
--- `theorems::empty_copy`: no symbol of an empty language is useful. Assumes nothing.
-use Rattle.clean.proofs.Copied.{start-alone}
-use Rattle.clean.proofs.theorems.empty_copy.Statement.{statement}
-use Rattle.clean.proofs.theorems.empty_copy.Tie as tie
-
-pub empty-copy-spec : {M : Type 1} → statement M
-empty-copy-spec = tie.close (tie.spec (λ c. start-alone))

@@ -1,0 +1,11 @@
+pub mod Renumbered
+pub mod Numbering
+pub mod CleanRules
+pub mod SameLanguage
+pub mod CleanRange
+pub mod CopyAgain
+pub mod EmptyLanguage
+pub mod RisingCopy
+pub mod CopyAccepted
+pub mod Copied
+pub mod CopyRecords

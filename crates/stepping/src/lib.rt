@@ -1,0 +1,2 @@
+// One step on a bit table.
+pub mod step;
