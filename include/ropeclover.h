@@ -21,24 +21,24 @@
  * The number of states is one more than the largest state in a T, I or F record. A rule's rank is its place, from 0, when the job's rules are
  * sorted by field 1, then by kind letter, then by fields 2 and 3.
  *
+ * CALLING
+ *
+ * Every function takes each buffer as a pointer and its length in elements, and writes its answer whole, on every path:
+ *
+ *   answer[ROPECLOVER_NUMBER]  0, or the number of a refusal, which ropeclover_refusal_text puts into words
+ *   answer[ROPECLOVER_PLACE]   0, or the place of the refusal
+ *   the rest                   what is said at each function; all 0 with a refusal. Yes is 1, no is 0.
+ *
+ * A pointer is never NULL, not even where its length is 0. No two buffers may overlap. The library allocates nothing, keeps nothing between
+ * calls, and may be called from any thread on memory that no other thread uses meanwhile. It needs less than 128 KiB of stack. Answers do not
+ * depend on the order of the records, but that a long job is written in the order read.
+ *
  * LONG BODIES
  *
  * Rules with bodies of up to eight symbols are written in a long job, which ropeclover_binarize makes an ordinary job of. Its records have twelve
  * bytes: those of an ordinary job padded with eight zeros, but that a rule may also be
  *
  *   L  A n X1 .. X8 0    rule A -> X1 .. Xn, symbols: n is 0 to 8, and the bytes past Xn are 0
- *
- * CALLING
- *
- * Every function takes each buffer as a pointer and its length in elements, and writes its answer whole, on every path:
- *
- *   answer[0]  0, or the number of a refusal
- *   answer[1]  0, or the place of the refusal
- *   the rest   what is said at each function; all 0 with a refusal. Yes is 1, no is 0.
- *
- * A pointer is never NULL, not even where its length is 0. No two buffers may overlap. The library allocates nothing, keeps nothing between
- * calls, and may be called from any thread on memory that no other thread uses meanwhile. It needs less than 128 KiB of stack. Answers do not
- * depend on the order of the records, but that a long job is written in the order read.
  *
  * THE LENT MEMORY
  *
@@ -89,20 +89,21 @@
  *       uint64_t answer[ROPECLOVER_ANSWER_NUMBERS];
  *
  *       ropeclover_start(job, sizeof job, table, sizeof table, reasons, ROPECLOVER_REASONS, answer);
- *       while (answer[0] == 0) {
+ *       while (answer[ROPECLOVER_NUMBER] == 0) {
  *           ropeclover_advance(job, sizeof job, table, sizeof table, reasons, ROPECLOVER_REASONS, 1000, answer);
- *           if (answer[2] == 1) {
+ *           if (answer[ROPECLOVER_IS_FINISHED] == 1) {
  *               break;
  *           }
  *       }
- *       if (answer[0] == 0) {
+ *       if (answer[ROPECLOVER_NUMBER] == 0) {
  *           ropeclover_ask(job, sizeof job, table, sizeof table, form, sizeof form, answer);
  *       }
- *       if (answer[0] != 0) {
- *           printf("refused %d at %d\n", (int)answer[0], (int)answer[1]);
+ *       if (answer[ROPECLOVER_NUMBER] != 0) {
+ *           printf("refused %d at %d: %s\n", (int)answer[ROPECLOVER_NUMBER], (int)answer[ROPECLOVER_PLACE],
+ *                  ropeclover_refusal_text(answer[ROPECLOVER_NUMBER]));
  *           return 1;
  *       }
- *       puts(answer[2] == 1 ? "accepted" : "not accepted");
+ *       puts(answer[ROPECLOVER_IS_ACCEPTED] == 1 ? "accepted" : "not accepted");
  *       return 0;
  *   }
  * end of the example
@@ -117,9 +118,9 @@
 extern "C" {
 #endif
 
-#define ROPECLOVER_VERSION "0.1.0"
+#define ROPECLOVER_VERSION "0.2.0"
 #define ROPECLOVER_VERSION_MAJOR 0
-#define ROPECLOVER_VERSION_MINOR 1
+#define ROPECLOVER_VERSION_MINOR 2
 #define ROPECLOVER_VERSION_PATCH 0
 
 /* The lengths to lend. A longer buffer is taken too; a shorter one is refused. */
@@ -160,6 +161,24 @@ extern "C" {
 
 /* Room for every function's answer. */
 #define ROPECLOVER_ANSWER_NUMBERS 5
+
+/* Where the numbers of an answer stand. */
+enum ropeclover_answer {
+    ROPECLOVER_NUMBER = 0,              /* of a refusal, 0 for none */
+    ROPECLOVER_PLACE = 1,               /* of the refusal */
+    ROPECLOVER_NUMBER_OF_STATES = 2,    /* start */
+    ROPECLOVER_IS_FINISHED = 2,         /* advance */
+    ROPECLOVER_STEPS_MADE = 3,
+    ROPECLOVER_MEETINGS = 4,
+    ROPECLOVER_IS_ACCEPTED = 2,         /* ask, explain */
+    ROPECLOVER_RECORDS_LISTED = 3,      /* explain */
+    ROPECLOVER_IS_EMPTY = 2,            /* verdicts */
+    ROPECLOVER_IS_GROWING = 3,
+    ROPECLOVER_RECORDS_WRITTEN = 2,     /* binarize, clean */
+    ROPECLOVER_DONE_TRANSITIONS = 2,    /* done count */
+    ROPECLOVER_SHOWN_OFFSET = 0,        /* showing, whose answer has no refusal */
+    ROPECLOVER_SHOWN_LENGTH = 1
+};
 
 /* The most steps that an advance can make: this many finish any table. */
 #define ROPECLOVER_STEPS 65536
@@ -277,6 +296,36 @@ void ropeclover_clean(const uint8_t *job, size_t job_len, uint8_t *out, size_t o
 /* The record that the job is refused for by 3 to 7, as a part of the job. answer[0]: its offset in bytes; answer[1]: its length, 4; both are 0
  * where there is none. (This answer has no refusal.) */
 void ropeclover_show(const uint8_t *job, size_t job_len, uint64_t answer[2]);
+
+/* The version of this header, as ROPECLOVER_VERSION. */
+static inline const char *ropeclover_version(void)
+{
+    return ROPECLOVER_VERSION;
+}
+
+/* A refusal in words, without its place; 'accepted' for 0. */
+static inline const char *ropeclover_refusal_text(uint64_t number)
+{
+    switch (number) {
+    case ROPECLOVER_ACCEPTED: return "accepted";
+    case ROPECLOVER_PARTIAL_RECORD: return "the length is no whole number of records";
+    case ROPECLOVER_JOB_TOO_LONG: return "the job has too many bytes";
+    case ROPECLOVER_UNKNOWN_KIND: return "a record has an unknown kind letter";
+    case ROPECLOVER_FIELD_OUTSIDE_CLASS: return "a field is outside its class";
+    case ROPECLOVER_REPEATED: return "a record stands twice";
+    case ROPECLOVER_SECOND: return "there is a second S or a second I record";
+    case ROPECLOVER_TOO_MANY_RULES: return "there are too many rules";
+    case ROPECLOVER_NO_START: return "there is no S record";
+    case ROPECLOVER_NO_INITIAL: return "there is no I record";
+    case ROPECLOVER_SHORT_BUFFER: return "a lent buffer is too short";
+    case ROPECLOVER_NO_SYMBOL: return "a byte of the form is no symbol";
+    case ROPECLOVER_FORM_TOO_LONG: return "the form has too many symbols";
+    case ROPECLOVER_LISTING_TOO_SHORT: return "the buffer that is written to is too short";
+    case ROPECLOVER_TOO_FEW_VARIABLES: return "a long rule takes more variables than are free";
+    case ROPECLOVER_ILL_PADDED: return "a record of a long job is not padded by zeros";
+    default: return "an unknown refusal";
+    }
+}
 
 #ifdef __cplusplus
 }

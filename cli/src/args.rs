@@ -45,8 +45,9 @@ pub enum Format {
 /// Report whether the start symbol is accepted, the language empty, growing
 #[derive(Debug, clap::Args)]
 pub struct Report {
-    /// A job or its text
-    pub file: Option<PathBuf>,
+    /// Jobs or their texts
+    #[arg(value_name = "FILE")]
+    pub files: Vec<PathBuf>,
     /// How to write the answer
     #[arg(long, value_enum, default_value_t)]
     pub format: Format,
@@ -55,8 +56,9 @@ pub struct Report {
 /// List the symbols by kind: useful, derives no string, never reached
 #[derive(Debug, clap::Args)]
 pub struct Codes {
-    /// A job or its text
-    pub file: Option<PathBuf>,
+    /// Jobs or their texts
+    #[arg(value_name = "FILE")]
+    pub files: Vec<PathBuf>,
     /// List the symbols that no rule names, too
     #[arg(long)]
     pub all: bool,
@@ -71,8 +73,9 @@ pub struct Codes {
 /// Say whether a form is accepted, and step by step why
 #[derive(Debug, clap::Args)]
 #[command(after_help = "\
-A SYMBOL is a number, a name of the text, or a string in double quotes that the shell must leave alone: '\"M\"'. A string that is no name \
-itself stands for its characters; '\"\"' is the empty form. Without a SYMBOL the start symbol is explained. To read standard input, write '-'.")]
+A SYMBOL is a name of the text, a character, a string in double quotes that the shell must leave alone, '\"M5\"', or a number as '#5'. A string \
+that is no name itself stands for its characters; '\"\"' is the empty form. A character is the symbol with this name, in quotes, or the one whose name \
+is a range that holds it, as \"0-9\". Without a SYMBOL the start symbol is explained. To read standard input, write '-'.")]
 pub struct Explain {
     /// A job or its text
     pub file: Option<PathBuf>,
@@ -108,7 +111,7 @@ pub struct Nightly {
     /// Files checked at a time [default: the number of processors]
     #[arg(long, value_name = "N", value_parser = clap::value_parser!(u16).range(1..))]
     pub jobs: Option<u16>,
-    /// A form to explain besides the start symbol, as 'memory "5" 33'; may be repeated
+    /// A form to explain besides the start symbol, as 'memory "5" tone'; may be repeated
     #[arg(long = "form", value_name = "FORM")]
     pub forms: Vec<String>,
     /// Compare with what BASELINE says was last seen; write what it lacks

@@ -23,7 +23,7 @@ pub enum Failure {
 }
 
 /// A job was refused, a text is malformed, or two runs differ.
-const NO: u8 = 1;
+pub const NO: u8 = 1;
 /// Bad usage, or input or output failed.
 const TROUBLE: u8 = 2;
 

@@ -1,14 +1,16 @@
 //! Input: a job, or a text that is read into one. A long job is written as an ordinary one.
 use crate::args::Format;
 use crate::failure::{complain, Failure};
+use crate::form;
 use crate::quote::{self, Mark, Page};
+use ropeclover::format::Class;
 use ropeclover::long::{self, LongRecord};
-use ropeclover::text::{self, Names, RecordPlace, Text, TextError};
+use ropeclover::text::{self, FormLine, Names, RecordPlace, Text, TextError, UnknownSymbol};
 use ropeclover::{JOB_BYTES, LONG_JOB_BYTES, LONG_RECORD_BYTES};
 use std::fmt;
 use std::fs::File;
 use std::io::{self, IsTerminal, Read};
-use std::path::Path;
+use std::path::{Path, PathBuf};
 
 /// The longest text in bytes: room for the longest job with long comments.
 const TEXT_BYTES: usize = 1 << 24;
@@ -26,6 +28,10 @@ pub struct Input {
     pub long: Option<Vec<u8>>,
     pub names: Names,
     pub source: Option<Source>,
+    /// The forms that a text asks about.
+    pub forms: Vec<FormLine>,
+    /// What there is to say of a text that can be read.
+    pub warnings: Vec<String>,
     /// The symbols of the form that was asked for, with names.
     pub form: Vec<String>,
 }
@@ -79,10 +85,18 @@ pub enum Unreadable {
     NoSpelling { name: String, record: usize },
 }
 
+/// How many lines are malformed, in words.
+fn malformed(lines: usize, more: &str) -> String {
+    match lines {
+        1 => format!("1 {more}line is malformed"),
+        lines => format!("{lines} {more}lines are malformed"),
+    }
+}
+
 impl fmt::Display for Unreadable {
     fn fmt(&self, f: &mut fmt::Formatter<'_>) -> fmt::Result {
         match self {
-            Unreadable::Malformed { name, errors, .. } => write!(f, "{name}: {} lines are malformed", errors.len()),
+            Unreadable::Malformed { name, errors, .. } => write!(f, "{name}: {}", malformed(errors.len(), "")),
             Unreadable::NotText { name, line, offset } => write!(
                 f,
                 "{name}: neither a job, as no byte is zero, nor text, as line {line} is no UTF-8 at byte {offset}"
@@ -112,17 +126,35 @@ impl Unreadable {
     }
 }
 
+/// The name that may have been meant by a word that is none.
+fn suggestion(problem: &text::Problem, names: &Names) -> Option<String> {
+    let symbols = |end: u8| (0..end).filter_map(|symbol| names.symbol_name(symbol));
+    let near = match problem {
+        text::Problem::NoField(word, Some(Class::Variable)) => form::nearest(word, symbols(32)),
+        text::Problem::NoField(word, Some(Class::Symbol)) => form::nearest(word, symbols(64)),
+        text::Problem::NoField(word, Some(Class::State)) => {
+            form::nearest(word, (0..32).filter_map(|state| names.state_name(state)))
+        }
+        text::Problem::NoForm(UnknownSymbol::Word(word)) => form::nearest(word, symbols(64)),
+        text::Problem::NoKind(word) => form::nearest(word, ["name", "state", "form"].into_iter()),
+        _ => None,
+    };
+    near.map(|name| format!("did you mean '{name}'?"))
+}
+
 fn tell_malformed(name: &str, text: &str, errors: &[TextError]) {
+    let names = text::names(text);
     let page = Page { name, lines: text.lines().collect(), first_number: 1 };
     for error in errors.iter().take(SHOWN_ERRORS) {
         let mut marks = vec![Mark::primary(error.span.line - 1, error.span.start, error.span.end, "")];
         if let text::Problem::NamedAlready(earlier) | text::Problem::NameTaken(earlier) = &error.problem {
             marks.push(Mark::secondary(earlier.line - 1, earlier.start, earlier.end, "first here"));
         }
-        quote::show(&page, None, &error.problem.to_string(), &marks, &[]);
+        let notes: Vec<String> = suggestion(&error.problem, &names).into_iter().collect();
+        quote::show(&page, None, &error.problem.to_string(), &marks, &notes);
     }
     if errors.len() > SHOWN_ERRORS {
-        complain(&format!("{name}: {} more lines are malformed", errors.len() - SHOWN_ERRORS));
+        complain(&format!("{name}: {}", malformed(errors.len() - SHOWN_ERRORS, "more ")));
     }
 }
 
@@ -147,10 +179,18 @@ fn is_standard(file: Option<&Path>) -> bool {
     file.map_or(true, |path| path == Path::new("-"))
 }
 
+/// The inputs that files on the command line stand for: standard input where there is none.
+pub fn files(files: &[PathBuf]) -> Vec<Option<&Path>> {
+    match files.is_empty() {
+        true => vec![None],
+        false => files.iter().map(|file| Some(file.as_path())).collect(),
+    }
+}
+
 /// The name of an input in messages.
 pub fn name(file: Option<&Path>) -> String {
     match file {
-        Some(path) if !is_standard(file) => quote::visible_word(&path.to_string_lossy()),
+        Some(path) if !is_standard(file) => quote::visible_path(path),
         _ => "<stdin>".into(),
     }
 }
@@ -199,18 +239,30 @@ fn decode(name: &str, bytes: Vec<u8>) -> Result<String, Unreadable> {
     Ok(text.strip_prefix('\u{feff}').map(String::from).unwrap_or(text))
 }
 
+/// A line for the names that no record uses, if there are any: perhaps one was meant where another stands.
+fn unused(name: &str, text: &Text) -> Vec<String> {
+    match text.unused_names()[..] {
+        [] => vec![],
+        [one] => vec![format!("{name}: no record uses the name {one}")],
+        ref several => vec![format!("{name}: no record uses the names {}", several.join(", "))],
+    }
+}
+
 fn read_text(name: String, bytes: Vec<u8>) -> Result<Input, Unreadable> {
     let text = decode(&name, bytes)?;
     match text::read(&text) {
-        Ok(Text { job, is_long, names, records }) => {
-            Ok(Input { names, source: Some(Source { text, records }), ..Input::of(name, job, is_long) })
+        Ok(read) => {
+            let warnings = unused(&name, &read);
+            let Text { job, is_long, names, records, forms } = read;
+            let source = Some(Source { text, records });
+            Ok(Input { names, source, forms, warnings, ..Input::of(name, job, is_long) })
         }
         Err(errors) => Err(Unreadable::Malformed { name, text, errors }),
     }
 }
 
 /// Reads a job, a long job or a text, and leaves a long job as it is.
-fn read_as(file: Option<&Path>, reading: Reading) -> Result<Input, Failure> {
+fn read_silently(file: Option<&Path>, reading: Reading) -> Result<Input, Failure> {
     let name = name(file);
     match read_bytes(file, reading)? {
         Bytes::Job(job) => Ok(Input::of(name, job, false)),
@@ -219,16 +271,28 @@ fn read_as(file: Option<&Path>, reading: Reading) -> Result<Input, Failure> {
     }
 }
 
-/// Writes a long job as an ordinary one. A variable that was taken for it has no name, whatever a line of the text says.
+/// As [`read_silently`], and says what there is to say of the text.
+fn read_as(file: Option<&Path>, reading: Reading) -> Result<Input, Failure> {
+    let input = read_silently(file, reading)?;
+    input.warnings.iter().for_each(|warning| complain(warning));
+    Ok(input)
+}
+
+/// Writes a long job as an ordinary one. A variable that was taken for it is named by what it stands for, whatever a line of the text says.
 fn binarized(mut input: Input) -> Result<Input, Failure> {
     let Some(long) = &input.long else { return Ok(input) };
     match long::binarized(long) {
         Ok(job) => {
-            input.names.forget_symbols(&long::fresh(long, &job));
+            input.names.name_tails(&long::tails(long, &job));
             Ok(Input { job, ..input })
         }
         Err(refusal) => Err(Failure::Refused { refusal, input: Box::new(input), format: Format::Text }),
     }
+}
+
+/// Reads a job or its text, and leaves it to the caller to tell the warnings.
+pub fn read_for_later(file: Option<&Path>) -> Result<Input, Failure> {
+    binarized(read_silently(file, Reading::Job)?)
 }
 
 /// Reads a job or its text.

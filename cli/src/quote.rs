@@ -5,6 +5,8 @@ use codespan_reporting::term::termcolor::{BufferWriter, ColorChoice};
 use codespan_reporting::term::{self, Chars};
 use std::io::{self, IsTerminal, Write};
 use std::ops::Range;
+use std::os::unix::ffi::OsStrExt;
+use std::path::Path;
 
 /// The most of a line that is quoted, in bytes before and after the first mark.
 const WINDOW: usize = 100;
@@ -58,6 +60,28 @@ pub fn visible(text: &str) -> String {
 /// A word as it may be shown on a line.
 pub fn visible_word(text: &str) -> String {
     visible(text).replace(['\n', '\t'], "\u{fffd}")
+}
+
+/// A file's name as it may be shown, different for different names: what cannot be shown, and bytes that are no UTF-8, by a backslash.
+pub fn visible_path(path: &Path) -> String {
+    let mut shown = String::new();
+    let mut rest = path.as_os_str().as_bytes();
+    while !rest.is_empty() {
+        let length = std::str::from_utf8(rest).map_or_else(|error| error.valid_up_to(), str::len);
+        for c in String::from_utf8_lossy(&rest[..length]).chars() {
+            match c {
+                '\\' | '\t' | '\n' => shown.extend(c.escape_default()),
+                _ if visible_char(c) != c => shown.extend(c.escape_default()),
+                _ => shown.push(c),
+            }
+        }
+        rest = &rest[length..];
+        if let Some((byte, behind)) = rest.split_first() {
+            shown.push_str(&format!("\\x{byte:02x}"));
+            rest = behind;
+        }
+    }
+    shown
 }
 
 /// A line as it is quoted.

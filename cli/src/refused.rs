@@ -140,8 +140,8 @@ fn told_of_long(refusal: Refusal, lines: &Lines<'_>) -> Told {
 fn told(refusal: Refusal, lines: &Lines<'_>) -> Told {
     match refusal {
         Refusal::UnknownKind { record } => {
-            let is_long = lines.input.long.is_some();
-            let kinds = if is_long { "E, U, P, T, I, F, S and L" } else { "E, U, P, T, I, F and S" };
+            let takes_long = lines.input.long.is_some() || lines.input.source.is_some();
+            let kinds = if takes_long { "E, U, P, T, I, F, S and L" } else { "E, U, P, T, I, F and S" };
             let message = format!("the kinds are {kinds}");
             ("unknown kind of record".into(), vec![lines.word(record as usize, 0, message)])
         }

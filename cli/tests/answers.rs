@@ -30,11 +30,39 @@ fn the_report_of_the_specification() {
         .prints("{\"empty\":false,\"examined\":11,\"growing\":true,\"joins\":8,\"start\":true,\"states\":3}\n");
 }
 
+/// Each answer under the name of its file; what fails does not keep the others from being answered.
+#[test]
+fn several_files() {
+    let (radio, report) =
+        (file("two-radio", "radio.txt", RADIO_TEXT.as_bytes()), file("two-report", "report.txt", REPORT.as_bytes()));
+    let refused = file("two-refused", "refused.txt", b"S 0\n");
+    let specified = "states 3\nexamined 11\njoins 8\nstart yes\nempty no\ngrowing yes\n";
+    run(&["report", &radio, &report], b"").prints(&format!("{radio}:\n{RADIO_REPORT}{report}:\n{specified}"));
+    run(&["report", &report, "-"], RADIO_JOB).prints(&format!("{report}:\n{specified}<stdin>:\n{RADIO_REPORT}"));
+    let ran = run(&["report", &refused, "/no/such/file", &report], b"");
+    assert_eq!((ran.stdout, ran.status), (format!("{refused}:\nrefused 9 at 1\n{report}:\n{specified}"), Some(2)));
+    let malformed = file("two-malformed", "malformed.txt", b"S\n");
+    let ran = run(&["codes", &report, &malformed], b"");
+    let codes = "useful: 4\n  0\n  1\n  32\n  33\nderives no string: 0\nnever reached: 0\n";
+    assert_eq!((ran.stdout, ran.status), (format!("{report}:\n{codes}"), Some(1)));
+    let numbers = run(&["codes", "--numbers", &report, &radio], b"").stdout;
+    assert_eq!(numbers.lines().count(), 2 * 65);
+    let ran = run(&["report", "--format", "json", &report, &refused], b"");
+    let object = format!("{{\"empty\":false,\"examined\":11,\"file\":\"{report}\",\"growing\":true,");
+    assert!(
+        ran.stdout.starts_with(&object) && ran.stdout.lines().count() == 2 && ran.status == Some(1),
+        "{}",
+        ran.stdout
+    );
+    let codes = run(&["codes", "--format", "json", &report, &radio], b"").stdout;
+    assert!(codes.starts_with(&format!("{{\"file\":\"{report}\",\"symbols\":[")), "{codes}");
+}
+
 /// S → S S with S → ε says the empty string alone; with S → a besides, one string of each length.
 #[test]
 fn what_vanishes_does_not_grow() {
-    let text = "name 0 S\nname 32 \"a\"\nS S\nE S\nP S S S\nI 0\nF 0\n";
-    for (more, growing) in [("", "no"), ("U S \"a\"\n", "yes")] {
+    let text = "name 0 S\nS S\nE S\nP S S S\nI 0\nF 0\n";
+    for (more, growing) in [("", "no"), ("name 32 \"a\"\nU S \"a\"\n", "yes")] {
         let told = format!("states 1\nexamined 1\njoins 1\nstart yes\nempty no\ngrowing {growing}\n");
         run(&["report"], format!("{text}{more}").as_bytes()).prints(&told);
     }
@@ -75,7 +103,7 @@ fn a_listing_has_names_and_stands_after_its_premises() {
     let named = file("listing", "named.txt", NAMED.as_bytes());
     run(&["explain", &named], b"").prints(listing);
     run(&["explain", &named, "go"], b"").prints(listing);
-    run(&["explain", &named, "0"], b"").prints(listing);
+    run(&["explain", &named, "#0"], b"").prints(listing);
     run(&["explain", "-"], NAMED.as_bytes()).prints(listing);
     run(&["explain", &named, "stop"], b"").prints("accepted no\nform stop\nrecords 0\n");
 }
@@ -85,7 +113,7 @@ fn a_listing_has_names_and_stands_after_its_premises() {
 fn forms_of_names_and_strings() {
     let two =
         "accepted yes\nform \"G\" \"T\"\nsequence idle 1 done\nrecords 2\nidle \"G\" 1 given\n1 \"T\" done given\n";
-    for words in [&["\"G\"", "\"T\""][..], &["\"GT\""], &["G", "T"], &["\"G\" 33"], &["32", "33"]] {
+    for words in [&["\"G\"", "\"T\""][..], &["\"GT\""], &["G", "T"], &["\"G\" #33"], &["#32", "#33"]] {
         run(&[&["explain", "-"], words].concat(), NAMED.as_bytes()).prints(two);
     }
     // A form has no comments.
@@ -96,6 +124,43 @@ fn forms_of_names_and_strings() {
     }
     run(&["explain", "-", "\"\""], NAMED.as_bytes()).prints("accepted no\nform \"\"\nrecords 0\n");
     run(&["explain", "-", ""], b"S 0\nI 0\nF 0\n").prints("accepted yes\nform \"\"\nsequence 0\nrecords 0\n");
+}
+
+/// The recorded command typed character by character: "0-9" holds 5 and 8. A name of one's own comes before a range that holds it.
+#[test]
+fn characters_come_before_numbers() {
+    let radio = file("characters", "radio.txt", RADIO_TEXT.as_bytes());
+    let head = "accepted yes\nform \"M\" \"0-9\" \"T\" \"0-9\" \"0-9\"\nsequence begin 1 2 3 4 end\n";
+    for words in [&["M", "5", "T", "8", "8"][..], &["\"M5T88\""], &["M", "\"0-9\"", "T", "\"88\""]] {
+        let ran = run(&[&["explain", &radio], words].concat(), b"");
+        assert!(ran.stdout.starts_with(head) && ran.stderr.is_empty(), "{words:?}: {}{}", ran.stdout, ran.stderr);
+    }
+    let own = "name 32 \"0-9\"\nname 33 \"5\"\nS 0\nI 0\nF 1\nT 0 32 1\nT 0 33 1\n";
+    run(&["explain", "-", "5"], own.as_bytes())
+        .prints("accepted yes\nform \"5\"\nsequence 0 1\nrecords 1\n0 \"5\" 1 given\n");
+    let unknown = run(&["explain", &radio, "\"M5X\""], b"");
+    assert_eq!((unknown.status, unknown.stdout.as_str()), (Some(2), ""));
+    unknown.says(&["error: 'X' is no symbol: no character is named so, and no range holds it\n"]);
+    // Several characters without quotes are a word.
+    run(&["explain", &radio, "M", "5T88"], b"")
+        .says(&["'5T88' is no symbol: neither a name nor a number from 0 to 63"]);
+}
+
+/// A number without its sign is a symbol where it is no character, and that is said.
+#[test]
+fn numbers_are_symbols_by_their_sign() {
+    let radio = file("numbers", "radio.txt", RADIO_TEXT.as_bytes());
+    let memory = run(&["explain", &radio, "#3"], b"");
+    assert!(memory.stdout.starts_with("accepted yes\nform memory\n") && memory.stderr.is_empty());
+    let bare = run(&["explain", &radio, "34", "10"], b"");
+    assert!(bare.stdout.starts_with("accepted yes\nform \"M\" stored-setting\n"));
+    assert_eq!(
+        bare.stderr,
+        "ropeclover: 10 is read as symbol 10, as no character is named so; write #10\n\
+        ropeclover: 34 is read as symbol 34, as no character is named so; write #34\n"
+    );
+    run(&["explain", &radio, "#64"], b"").refuses("refused 11 at 0\n", &["1 | 64\n", "a symbol is 0 to 63"]);
+    assert_eq!(run(&["explain", &radio, "#256"], b"").status, Some(2));
 }
 
 #[test]

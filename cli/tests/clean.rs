@@ -75,18 +75,20 @@ fn the_examples() {
     );
 }
 
-/// The long rule's tails are 2, 3 and 4, which have no names.
+/// The long rule's tails are 2, 3 and 4, which are named by what they stand for.
 #[test]
 fn long_bodies_are_split_first() {
-    let expected = "name 0 memory\nname 1 digit\nname 32 \"M\"\nname 33 \"T\"\nname 34 \"0-9\"\n\
-        S memory 0 0\nP memory \"M\" 2\nU digit \"0-9\" 0\nP 2 digit 3\nP 3 \"T\" 4\nP 4 digit digit\n";
+    let expected = "name 0 memory\nname 1 digit\nname 2 memory.2\nname 3 memory.3\nname 4 memory.4\n\
+        name 32 \"M\"\nname 33 \"T\"\nname 34 \"0-9\"\n\
+        S memory 0 0\nP memory \"M\" memory.2\nU digit \"0-9\" 0\nP memory.2 digit memory.3\n\
+        P memory.3 \"T\" memory.4\nP memory.4 digit digit\n";
     let told = "ropeclover: left out T, I and F records: 7\n";
     writes(&run(&["clean", "--text"], MEMORY_TEXT.as_bytes()), expected.as_bytes(), told);
     writes(&run(&["clean"], &job(MEMORY_TEXT)), &job(expected), told);
-    // Free are 1 and 2, for the tails of the second rule, and 3 has no rule.
+    // Free are 1 and 2, for the tails of the second rule, and 3 has no rule. The head has no name, and so have the tails.
     let text = "name 1 taken\nname 3 gone\nS 0\nE 0\nL 0 32 0 32 gone\nI 0\n";
-    let told =
-        "ropeclover: left out P 0 32 1: 1 derives no string\nropeclover: left out P 1 0 2: 2 derives no string\n\
+    let told = "ropeclover: <stdin>: no record uses the name taken\n\
+        ropeclover: left out P 0 32 1: 1 derives no string\nropeclover: left out P 1 0 2: 2 derives no string\n\
         ropeclover: left out P 2 32 gone: gone derives no string\nropeclover: left out T, I and F records: 1\n";
     writes(&run(&["clean", "--text"], text.as_bytes()), b"S 0 0 0\nE 0 0 0\n", told);
 }

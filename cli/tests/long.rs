@@ -17,7 +17,7 @@ fn padded(bytes: &[u8]) -> Vec<u8> {
 
 #[test]
 fn a_text_is_assembled_to_a_long_job_and_back() {
-    let bytes = job("S 3\nL 3 32 1 33\nL\nT 1 2 3\n");
+    let bytes = job("S 3\nL 3 32 1 33\nL 0\nT 1 2 3\n");
     let expected: [&[u8]; 4] = [b"S\x03", b"L\x03\x03\x20\x01\x21", b"L", b"T\x01\x02\x03"];
     assert_eq!(bytes, expected.map(padded).concat());
     run(&["disassemble"], &bytes).prints("S 3 0 0\nL 3 32 1 33\nL 0\nT 1 2 3\n");
@@ -38,9 +38,12 @@ fn a_long_job_is_written_as_an_ordinary_one() {
     run(&["binarize", "--text"], &job(MEMORY_TEXT)).prints(SPLIT);
     let named = run(&["binarize", "--text"], MEMORY_TEXT.as_bytes());
     named.prints(
-        "name 0 memory\nname 1 digit\nname 32 \"M\"\nname 33 \"T\"\nname 34 \"0-9\"\nstate 0 begin\nstate 5 end\n\
-        S memory 0 0\nP memory \"M\" 2\nP 2 digit 3\nP 3 \"T\" 4\nP 4 digit digit\nU digit \"0-9\" 0\n\
-        I begin 0 0\nF end 0 0\nT begin \"M\" 1\nT 1 \"0-9\" 2\nT 2 \"T\" 3\nT 3 \"0-9\" 4\nT 4 \"0-9\" end\n",
+        "name 0 memory\nname 1 digit\nname 2 memory.2\nname 3 memory.3\nname 4 memory.4\n\
+        name 32 \"M\"\nname 33 \"T\"\nname 34 \"0-9\"\nstate 0 begin\nstate 5 end\n\
+        S memory 0 0\nP memory \"M\" memory.2\nP memory.2 digit memory.3\nP memory.3 \"T\" memory.4\n\
+        P memory.4 digit digit\nU digit \"0-9\" 0\n\
+        I begin 0 0\nF end 0 0\nT begin \"M\" 1\nT 1 \"0-9\" 2\nT 2 \"T\" 3\nT 3 \"0-9\" 4\nT 4 \"0-9\" end\n\
+        form \"M\" digit \"T88\"\n",
     );
     assert_eq!(job(&named.stdout), expected);
 }
@@ -61,8 +64,9 @@ fn binarize_takes_any_text_and_no_ordinary_job() {
 const LISTING: &str = "accepted yes\nform memory\nsequence begin end\nrecords 12\n\
     begin \"M\" 1 given\n1 \"0-9\" 2 given\n1 digit 2 by digit -> \"0-9\"\n\
     2 \"T\" 3 given\n3 \"0-9\" 4 given\n3 digit 4 by digit -> \"0-9\"\n\
-    4 \"0-9\" end given\n4 digit end by digit -> \"0-9\"\n3 4 end by 4 -> digit digit at 4\n\
-    2 3 end by 3 -> \"T\" 4 at 3\n1 2 end by 2 -> digit 3 at 2\nbegin memory end by memory -> \"M\" 2 at 1\n";
+    4 \"0-9\" end given\n4 digit end by digit -> \"0-9\"\n3 memory.4 end by memory.4 -> digit digit at 4\n\
+    2 memory.3 end by memory.3 -> \"T\" memory.4 at 3\n1 memory.2 end by memory.2 -> digit memory.3 at 2\n\
+    begin memory end by memory -> \"M\" memory.2 at 1\n";
 
 #[test]
 fn every_subcommand_takes_long_bodies() {
@@ -70,29 +74,56 @@ fn every_subcommand_takes_long_bodies() {
     for input in [text, &bytes] {
         run(&["report"], input).prints("states 6\nexamined 12\njoins 4\nstart yes\nempty no\ngrowing no\n");
         let told = "alike: states 6, examined 12, joins 4, start yes, empty no, growing no, useless symbols 0\n";
-        run(&["nightly"], input).prints(told);
+        let nightly = run(&["nightly"], input);
+        assert!(nightly.stdout.starts_with(told) && nightly.status == Some(0), "{}", nightly.stdout);
     }
     run(&["codes"], text).prints(
-        "useful: 8\n  0 memory\n  1 digit\n  2\n  3\n  4\n  32 \"M\"\n  33 \"T\"\n  34 \"0-9\"\n\
+        "useful: 8\n  0 memory\n  1 digit\n  2 memory.2\n  3 memory.3\n  4 memory.4\n  32 \"M\"\n  33 \"T\"\n  34 \"0-9\"\n\
         derives no string: 0\nnever reached: 0\n",
     );
     run(&["explain"], text).prints(LISTING);
     run(&["explain", "-", "memory"], text).prints(LISTING);
-    let numbers = run(&["explain", "-", "32", "2"], &bytes);
+    let numbers = run(&["explain", "-", "#32", "#2"], &bytes);
     assert!(numbers.stdout.starts_with("accepted yes\nform 32 2\nsequence 0 1 5\nrecords 11\n0 32 1 given\n"));
     let json = run(&["explain", "--format", "json"], text).stdout;
     assert!(json.contains("{\"body\":[32,2],\"from\":0,\"middle\":1,\"reason\":\"pair\",\"symbol\":0,\"to\":5}"));
+    assert!(json.contains("\"2\":\"memory.2\",\"3\":\"memory.3\""), "{json}");
+    let codes = run(&["codes", "--format", "json"], text).stdout;
+    assert!(codes.contains("{\"code\":1,\"kind\":\"useful\",\"name\":\"memory.3\",\"symbol\":3}"), "{codes}");
+    let graph = run(&["explain", "--dot", "-", "memory.3"], text).stdout;
+    assert!(graph.contains("label=\"form memory.3\\nnot accepted\""), "{graph}");
+    let tree = run(&["explain", "--tree"], text).stdout;
+    assert!(tree.contains("\n  1 memory.2 end by memory.2 -> digit memory.3 at 2\n"), "{tree}");
+}
+
+/// The second long rule of a head has its number in its tails' names; a head in quotes keeps them; a name that is taken is given to no tail.
+#[test]
+fn tails_of_several_rules() {
+    let text =
+        "name 0 go\nname 1 \"it\"\nname 2 go.3\nS go\nL go 32 33 34 35\nL go go.3 32 \"it\"\nL \"it\" 36 37 38\nI 0\n";
+    // 3 and 4 are the tails of the first rule from its second and third symbol on, 5 and 6 those of the others.
+    let rules = "P go 32 go.2\nP go.2 33 4\nP 4 34 35\nP go go.3 go.2.2\nP go.2.2 32 \"it\"\nP \"it\" 36 \"it.2\"\nP \"it.2\" 37 38\n";
+    let ran = run(&["binarize", "--text"], text.as_bytes());
+    ran.prints(&format!(
+        "name 0 go\nname 1 \"it\"\nname 2 go.3\nname 3 go.2\nname 5 go.2.2\nname 6 \"it.2\"\nS go 0 0\n{rules}I 0 0 0\n"
+    ));
+    assert_eq!(job(&ran.stdout), run(&["binarize"], text.as_bytes()).bytes);
 }
 
 /// Variable 1 is called old, but no record names it, so it is taken for the tail.
 #[test]
 fn a_variable_that_is_taken_has_no_name() {
     let text = "name 1 old\nname 3 kept\nS 0\nL 0 32 0 0\nI 0\n";
-    run(&["codes"], text.as_bytes()).prints("useful: 0\nderives no string: 2\n  0\n  1\nnever reached: 1\n  32\n");
+    let codes = run(&["codes"], text.as_bytes());
+    assert_eq!(codes.stdout, "useful: 0\nderives no string: 2\n  0\n  1\nnever reached: 1\n  32\n");
+    assert_eq!(
+        (codes.stderr.as_str(), codes.status),
+        ("ropeclover: <stdin>: no record uses the names old, kept\n", Some(0))
+    );
     let unknown = run(&["explain", "-", "old"], text.as_bytes());
     assert_eq!((unknown.status, unknown.stdout.as_str()), (Some(2), ""));
     unknown.says(&["'old' is no symbol"]);
-    run(&["explain", "-", "kept"], text.as_bytes()).prints("accepted no\nform kept\nrecords 0\n");
+    assert_eq!(run(&["explain", "-", "kept"], text.as_bytes()).stdout, "accepted no\nform kept\nrecords 0\n");
     assert!(run(&["binarize", "--text"], text.as_bytes()).stdout.starts_with("name 3 kept\nS 0 0 0\nP 0 32 1\n"));
 }
 
@@ -212,8 +243,10 @@ fn a_body_of_nine_symbols_is_malformed() {
         "",
         &["a body has at most eight symbols, not 10\n  --> <stdin>:2:21\n", "2 | L 0 1 2 3 4 5 6 7 8 9 10\n"],
     );
-    run(&["report"], b"name 0 a\nstate 1 q\nL a a q\n")
-        .refuses("", &["'q' is no number from 0 to 255, and no symbol has this name\n", "3 | L a a q\n  |       ^\n"]);
+    run(&["report"], b"name 0 a\nstate 1 q\nL a a q\n").refuses(
+        "",
+        &["'q' is no symbol: neither the name of one nor a number from 0 to 63\n", "3 | L a a q\n  |       ^\n"],
+    );
 }
 
 /// As long as a long job may be, which is longer than an ordinary one: 4,094 transitions of two states by terminals, on which no rule acts.

@@ -15,25 +15,25 @@ fn tree(form: &[&str]) -> String {
 #[test]
 fn a_tree_for_each_step() {
     assert_eq!(
-        tree(&["1", "32"]),
+        tree(&["#1", "#32"]),
         "accepted yes\nform 1 32\nsequence 0 0 0\n0 1 0 by 1 -> 32\n  0 32 0 given\n0 32 0 given\n"
     );
     assert_eq!(
-        tree(&["32", "32", "1"]),
+        tree(&["#32", "#32", "#1"]),
         "accepted yes\nform 32 32 1\nsequence 0 0 0 0\n0 32 0 given\n0 32 0 given\n0 1 0 by 1 -> 32\n  0 32 0 given\n"
     );
     assert_eq!(
-        tree(&["1", "1"]),
+        tree(&["#1", "#1"]),
         "accepted yes\nform 1 1\nsequence 0 0 0\n0 1 0 by 1 -> 32\n  0 32 0 given\n0 1 0 by 1 -> 32 (shown above)\n"
     );
-    assert_eq!(tree(&["33"]), "accepted no\nform 33\n");
+    assert_eq!(tree(&["#33"]), "accepted no\nform 33\n");
 }
 
 /// Two ways for the form 32 32 from 0 to 3, and a third that ends nowhere: the one through 1 comes first.
 #[test]
 fn the_first_sequence_is_shown() {
     let text = "S 0\nI 0\nF 3\nT 0 32 0\nT 0 32 2\nT 0 32 1\nT 2 32 3\nT 1 32 3\n";
-    run(&["explain", "--tree", "-", "32", "32"], text.as_bytes())
+    run(&["explain", "--tree", "-", "#32", "#32"], text.as_bytes())
         .prints("accepted yes\nform 32 32\nsequence 0 1 3\n0 32 1 given\n1 32 3 given\n");
 }
 
@@ -44,7 +44,7 @@ fn graph(form: &[&str]) -> String {
 #[test]
 fn a_graph_has_ordered_and_labelled_edges() {
     assert_eq!(
-        graph(&["32", "32", "1"]),
+        graph(&["#32", "#32", "#1"]),
         concat!(
             "digraph derivation {\n  graph [ordering=out];\n  node [shape=box];\n",
             "  form [shape=ellipse, label=\"form 32 32 1\\naccepted by the states 0 0 0 0\"];\n",
@@ -54,8 +54,8 @@ fn a_graph_has_ordered_and_labelled_edges() {
             "  \"0 1 0\" -> \"0 32 0\" [label=\"from\"];\n}\n"
         )
     );
-    assert!(graph(&["33"]).contains("label=\"form 33\\nnot accepted\""));
-    assert_ne!(graph(&["1", "32"]), graph(&["1", "1"]));
+    assert!(graph(&["#33"]).contains("label=\"form 33\\nnot accepted\""));
+    assert_ne!(graph(&["#1", "#32"]), graph(&["#1", "#1"]));
 }
 
 #[test]

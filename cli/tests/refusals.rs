@@ -19,9 +19,51 @@ fn a_kind_is_quoted() {
         "refused 3 at 1\n",
         &[
             "error[refused 3 at 1]: unknown kind of record\n  --> FILE:2:1\n",
-            "2 | X 1 2\n  | ^ the kinds are E, U, P, T, I, F and S\n",
+            "2 | X 1 2\n  | ^ the kinds are E, U, P, T, I, F, S and L\n",
         ],
     );
+}
+
+/// In a job the kinds are those of a job.
+#[test]
+fn a_kind_of_a_job() {
+    run(&["report"], b"S\0\0\0L\0\0\0X\0\0\0")
+        .refuses("refused 3 at 1\n", &["1 | L 0 0 0\n", "^ the kinds are E, U, P, T, I, F and S\n"]);
+}
+
+/// The nearest name of the field's class is suggested, and none where none is near.
+#[test]
+fn a_name_is_suggested() {
+    let names = "name 0 command\nname 33 \"T\"\nstate 0 begin\n";
+    for (line, word) in [
+        ("S comand", "command"),
+        ("U 0 comand", "command"),
+        ("T bgin \"T\" 1", "begin"),
+        ("form comand", "command"),
+        ("nmae 3 tone", "name"),
+    ] {
+        run(&["report"], format!("{names}{line}\n").as_bytes())
+            .refuses("", &[&format!("4 | {line}\n"), &format!("= did you mean '{word}'?\n")]);
+    }
+    for line in ["S xyz", "I comand", "form xyz"] {
+        let ran = run(&["report"], format!("{names}{line}\n").as_bytes());
+        assert!(ran.status == Some(1) && !ran.stderr.contains("did you mean"), "{}", ran.stderr);
+    }
+}
+
+/// A name that no record uses is told, and nothing else changes; its number in a record is a use of it.
+#[test]
+fn unused_names_are_told() {
+    let text = "name 0 go\nname 1 old\nname 40 \"x\"\nstate 0 begin\nstate 7 end\nS 0\nE go\nI 0\nF 0\n";
+    let told = "ropeclover: <stdin>: no record uses the names old, \"x\", end\n";
+    for words in [&["report"][..], &["codes"], &["explain"], &["nightly"], &["assemble"], &["binarize"], &["clean"]] {
+        let ran = run(words, text.as_bytes());
+        assert!(ran.stderr.starts_with(told) && ran.status == Some(0), "{words:?}: {}", ran.stderr);
+        let without = text.replace("name 1 old\nname 40 \"x\"\n", "").replace("state 7 end\n", "");
+        let plain = run(words, without.as_bytes());
+        assert_eq!((ran.bytes, ran.stderr), (plain.bytes, format!("{told}{}", plain.stderr)), "{words:?}");
+    }
+    run(&["assemble"], b"name 1 old\nS 0\n").says(&["no record uses the name old\n"]);
 }
 
 #[test]
@@ -145,15 +187,16 @@ fn a_job_shows_the_record_and_its_bytes() {
         "refused 3 at 0\n",
         &["  --> <stdin>:0:1\n  |\n0 | 0x07 0 0 0\n  | ^^^^ the kinds", "bytes 07 00 00 00"],
     );
-    run(&["report"], &RADIO_JOB[..39]).refuses("refused 1 at 9\n", &["left over after 9 whole records"]);
+    run(&["report"], &RADIO_JOB[..39]).refuses("refused 1 at 9\n", &["left over after 9 whole records\n"]);
+    run(&["report"], &RADIO_JOB[..7]).refuses("refused 1 at 1\n", &["left over after 1 whole record\n"]);
 }
 
 #[test]
 fn a_form_is_quoted() {
-    run(&["explain", "-", "0", "64", "1"], REPORT.as_bytes())
+    run(&["explain", "-", "#0", "#64", "#1"], REPORT.as_bytes())
         .refuses("refused 11 at 1\n", &["1 | 0 64 1\n  |   ^^ a symbol is 0 to 63"]);
     let words: Vec<String> =
-        ["explain", "-"].into_iter().map(String::from).chain((0..65).map(|_| "0".into())).collect();
+        ["explain", "-"].into_iter().map(String::from).chain((0..65).map(|_| "#0".into())).collect();
     run(&words, REPORT.as_bytes()).refuses("refused 12 at 65\n", &["the form has 65 symbols", "^ the 65th symbol"]);
 }
 
@@ -173,7 +216,7 @@ fn malformed_text_as_json() {
     let ran = run(&["codes", "--format", "json"], b"S 0\nfoo\nname 64 x\n");
     ran.refuses(
         concat!(
-            "{\"unreadable\":{\"lines\":[{\"line\":2,\"message\":\"'foo' is no kind of record (one letter), nor 'name' or 'state'\"},",
+            "{\"unreadable\":{\"lines\":[{\"line\":2,\"message\":\"'foo' is no kind of record (one letter), nor 'name', 'state' or 'form'\"},",
             "{\"line\":3,\"message\":\"a symbol is a number from 0 to 63\"}],\"message\":\"<stdin>: 2 lines are malformed\"}}\n"
         ),
         &["<stdin>:2:1", "<stdin>:3:6"],
@@ -187,22 +230,63 @@ fn malformed_lines_are_all_shown() {
     ran.refuses(
         "",
         &[
-            "'x' is no number from 0 to 255, and no symbol has this name\n  --> <stdin>:2:7\n",
+            "'x' is no symbol: neither the name of one nor a number from 0 to 63\n  --> <stdin>:2:7\n",
             "2 | P 0 1 x\n  |       ^\n",
-            "'foo' is no kind of record (one letter), nor 'name' or 'state'",
-            "a record has at most three fields, not 4\n  --> <stdin>:4:9\n",
+            "'foo' is no kind of record (one letter), nor 'name', 'state' or 'form'",
+            "a U record has 2 fields, a variable and a symbol, not 4\n  --> <stdin>:4:9\n",
             "this number has a name already, from line 5\n",
             "5 | name 0 a\n  | -------- first here\n6 | name 0 b\n  |      ^\n",
             "this name is taken already, in line 5\n",
             "a symbol is a number from 0 to 63\n",
             "a state is a number from 0 to 31\n",
-            "a number and a name are due here, not 1 words\n",
+            "a number and a name are due here, not 1 word\n",
             "'3' is no name",
             "this string has no closing quote on its line\n   --> <stdin>:12:5\n",
         ],
     );
+    let one = run(&["report", "--format", "json"], b"foo\n").stdout;
+    assert!(one.ends_with("\"message\":\"<stdin>: 1 line is malformed\"}}\n"), "{one}");
+    run(&["assemble"], "foo\n".repeat(11).as_bytes()).refuses("", &["<stdin>: 1 more line is malformed\n"]);
     let many = "foo\n".repeat(25);
     run(&["assemble"], many.as_bytes()).refuses("", &["<stdin>:10:1", "<stdin>: 15 more lines are malformed"]);
+}
+
+/// A forgotten field is no 0: each kind has its number of fields.
+#[test]
+fn the_number_of_fields_is_checked() {
+    let names = "name 0 command\nname 32 \"F\"\n";
+    for (line, message) in [
+        ("P command \"F\"", "a P record has 3 fields, a variable and two symbols, not 2"),
+        ("U command", "a U record has 2 fields, a variable and a symbol, not 1"),
+        ("T 0 \"F\"", "a T record has 3 fields, a state, a symbol and a state, not 2"),
+        ("E", "an E record has 1 field, a variable, not 0"),
+        ("S", "an S record has 1 field, a variable, not 0"),
+        ("I", "an I record has 1 field, a state, not 0"),
+        ("F", "an F record has 1 field, a state, not 0"),
+        ("L", "an L record has 1 to 9 fields, a variable and up to eight symbols, not 0"),
+    ] {
+        let carets = "^".repeat(line.len());
+        run(&["report"], format!("{names}{line} # forgotten\n").as_bytes()).refuses(
+            "",
+            &[&format!("{message}\n  --> <stdin>:3:1\n"), &format!("3 | {line} # forgotten\n  | {carets}\n")],
+        );
+    }
+    for (line, message) in [
+        ("S command \"F\"", "an S record has 1 field, a variable, not 2\n  --> <stdin>:3:11\n"),
+        ("F 0 0 0 0", "an F record has 1 field, a state, not 4\n  --> <stdin>:3:9\n"),
+        ("P 0 0 0 0", "a P record has 3 fields, a variable and two symbols, not 4\n  --> <stdin>:3:9\n"),
+        ("X 0 0 0 0", "a record has at most 3 fields, not 4\n  --> <stdin>:3:9\n"),
+    ] {
+        run(&["report"], format!("{names}{line}\n").as_bytes()).refuses("", &[message]);
+    }
+}
+
+/// The zeros behind a job's fields may be written out, all or some; other numbers there are the library's to refuse.
+#[test]
+fn zeros_behind_the_fields_may_be_written() {
+    run(&["assemble"], b"S 0 0 0\nE 3 0\nU 0 32 0\nI 1 0 0\n").prints("S\0\0\0E\u{3}\0\0U\0 \0I\u{1}\0\0");
+    run(&["report"], b"S 0 1\n")
+        .refuses("refused 4 at 0\n", &["1 | S 0 1\n  |     ^ field 2 of an S record is unused"]);
 }
 
 /// A byte order mark and carriage returns, as other systems write them, are no part of a line.
@@ -219,9 +303,9 @@ fn a_name_of_another_class_is_unknown() {
     run(&["report"], text.as_bytes()).refuses(
         "",
         &[
-            "'a' is no number from 0 to 255, and no state has this name",
+            "'a' is no state: neither the name of one nor a number from 0 to 31",
             "5 | T a a q",
-            "'q' is no number from 0 to 255, and no symbol",
+            "'q' is no variable: neither the name of one nor a number from 0 to 31",
         ],
     );
 }

@@ -49,6 +49,27 @@ fn a_full_device_is_reported() {
     assert_eq!(onto_a_full_device(&["disassemble"], RADIO_JOB).status, Some(2));
 }
 
+/// A closed output is told: what is written would be lost.
+#[test]
+fn a_closed_output_is_reported() {
+    for words in
+        ["report", "codes --format json", "explain --tree", "nightly", "assemble", "clean", "--help", "report --bogus"]
+    {
+        let line = format!("exec {COMMAND} {words} >&-");
+        let mut child =
+            Command::new("bash").args(["-c", &line]).stdin(Stdio::piped()).stderr(Stdio::piped()).spawn().unwrap();
+        let _ = child.stdin.take().unwrap().write_all(REPORT.as_bytes());
+        let ran = Ran::of(child.wait_with_output().unwrap());
+        assert_eq!(ran.status, Some(2), "{words}");
+        match words.contains("bogus") {
+            true => ran.says(&["--bogus"]),
+            false => {
+                assert_eq!(ran.stderr, "ropeclover: standard output: Bad file descriptor (os error 9)\n", "{words}")
+            }
+        }
+    }
+}
+
 /// The reader is gone before the command has its input, so before it writes.
 #[test]
 fn a_broken_pipe_ends_it_as_any_filter() {
@@ -122,6 +143,16 @@ fn floods_are_not_repeated() {
         assert_eq!(ran.status, Some(1));
         assert!(ran.stderr.len() < 2_000, "{}", ran.stderr.len());
     }
+    // A form of very many symbols, and very many forms.
+    let text = "name 40 \"0-9\"\nS 0\nI 0\nT 0 40 0\n";
+    let digits = "5".repeat(3_000_000);
+    let ran = run(&["nightly"], format!("{text}form \"{digits}\"\n").as_bytes());
+    ran.refuses("refused 12 at 3000000\n", &["^^^^^ the 65th symbol"]);
+    assert!(ran.stderr.len() < 2_000, "{}", ran.stderr.len());
+    for forms in ["form 41\n".repeat(300_000), format!("form {}\n", "41 ".repeat(60))] {
+        let ran = run(&["nightly"], format!("{text}{forms}").as_bytes());
+        assert_eq!((ran.stderr.lines().count(), ran.stdout.lines().count(), ran.status), (1, 2, Some(0)));
+    }
     // The caret stands at the field behind a long comment's worth of blanks, too.
     let far = format!("T 0{}64 0\n", " ".repeat(100_000));
     run(&["report"], far.as_bytes())
@@ -142,8 +173,38 @@ fn long_input_is_said_to_be_longer_than_a_job() {
         ran.refuses(line, &[message]);
         assert!(!ran.stderr.contains("16385 bytes") && !ran.stderr.contains("49153 bytes"));
     }
+    // Where not even the first byte is a kind's, the answers are those of the proved programs.
+    for (length, line) in [
+        (39, "refused 1 at 9\n"),
+        (16384, "refused 3 at 0\n"),
+        (16385, "refused 2 at 16385\n"),
+        (60000, "refused 2 at 16385\n"),
+    ] {
+        run(&["report"], &vec![0; length]).refuses(line, &[]);
+    }
     let text = "#\n".repeat(9 << 20);
     run(&["report"], text.as_bytes()).refuses("", &["<stdin>: the text has more than 16777216 bytes"]);
+}
+
+/// Runs the command by a shell that lets it have 1 GB of memory.
+fn within_a_gigabyte(words: &str) -> Ran {
+    let line = format!("ulimit -v 1000000 && exec {COMMAND} {words}");
+    Ran::of(Command::new("bash").args(["-c", &line]).output().unwrap())
+}
+
+/// Devices that give zeros without end, and a text without end: no more is read than tells that it is too long.
+#[test]
+fn inputs_without_end() {
+    let refused = "refused 2 at ";
+    for words in
+        ["report /dev/zero", "codes - </dev/full", "nightly /dev/zero", "binarize </dev/zero", "clean /dev/full"]
+    {
+        let ran = within_a_gigabyte(words);
+        assert_eq!((ran.status, &ran.stdout[..refused.len()]), (Some(1), refused), "{words}: {}", ran.stderr);
+    }
+    for words in ["report <(yes '#')", "explain - < <(yes '#')", "assemble <(yes '#')", "nightly <(yes '#')"] {
+        within_a_gigabyte(words).refuses("", &["the text has more than 16777216 bytes"]);
+    }
 }
 
 #[test]

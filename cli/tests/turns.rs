@@ -22,7 +22,7 @@ fn in_a_listing() {
         "accepted yes\nform memory\nsequence begin end\nrecords 4\nbegin \"M\" 1 given turn 0\n1 \"0-9\" end given turn 0\n\
         1 digit end by digit -> \"0-9\" turn 2\nbegin memory end by memory -> \"M\" digit at 1 turn 3\n",
     );
-    run(&["explain", "-", "0", "--turns"], EMPTY.as_bytes()).prints(
+    run(&["explain", "-", "#0", "--turns"], EMPTY.as_bytes()).prints(
         "accepted yes\nform 0\nsequence 0 1\nrecords 3\n0 1 0 by 1 -> empty turn 0\n0 2 1 given turn 0\n\
         0 0 1 by 0 -> 1 2 at 0 turn 2\n",
     );
@@ -65,7 +65,7 @@ fn in_json() {
 /// Nothing is learned for a form that is not accepted or is empty; a refusal is told as ever.
 #[test]
 fn without_records() {
-    run(&["explain", "--turns", "-", "33"], LOOP.as_bytes()).prints("accepted no\nform 33\nrecords 0\n");
+    run(&["explain", "--turns", "-", "#33"], LOOP.as_bytes()).prints("accepted no\nform 33\nrecords 0\n");
     run(&["explain", "--turns", "-", ""], LOOP.as_bytes()).prints("accepted yes\nform \"\"\nsequence 0\nrecords 0\n");
     run(&["explain", "--turns"], b"S 0\n").refuses("refused 9 at 1\n", &["error[refused 9 at 1]"]);
 }

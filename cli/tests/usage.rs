@@ -1,8 +1,9 @@
 //! The command line: help, version, suggestions, completions, and complaints before any input is read.
 mod support;
 
+use std::io::Write;
 use std::process::{Command, Stdio};
-use support::{run, Ran, COMMAND};
+use support::{folder, run, Ran, COMMAND};
 
 #[test]
 fn help_and_version() {
@@ -52,7 +53,7 @@ fn bad_words_end_with_status_2() {
     for words in [
         &["sing"][..],
         &[],
-        &["report", "a", "b"],
+        &["assemble", "a", "b"],
         &["codes", "--numbers", "--all"],
         &["explain", "--tree", "--dot"],
         &["explain", "--tree", "--format", "json"],
@@ -73,7 +74,7 @@ fn bad_words_end_with_status_2() {
     run(&["reprot"], b"").says(&["reprot", "report"]);
     let ran = run(&["explain", "-", "memry"], b"S 0\nI 0\n");
     assert_eq!(ran.status, Some(2));
-    ran.says(&["'memry' is no symbol: neither a number from 0 to 255 nor a name"]);
+    ran.says(&["'memry' is no symbol: neither a name nor a number from 0 to 63"]);
     assert_eq!(run(&["explain", "-", "256"], b"S 0\nI 0\n").status, Some(2));
     let names = b"name 3 memory\nname 4 tone\nS 3\nI 0\n";
     run(&["explain", "-", "memry"], names).says(&["'memry' is no symbol", "Did you mean 'memory'?"]);
@@ -106,4 +107,54 @@ fn completions_know_the_subcommands() {
             assert!(ran.stdout.contains(word), "{word} for {shell}");
         }
     }
+}
+
+/// What bash's function offers for the words of a line, the last being the one that is typed.
+fn offered(words: &[&str]) -> String {
+    let quoted: String = words.iter().map(|word| format!(" '{word}'")).collect();
+    let line = format!(
+        "source <({COMMAND} completions bash) && COMP_WORDS=({quoted}) && COMP_CWORD={} && _ropeclover ropeclover && echo \"${{COMPREPLY[*]}}\"",
+        words.len() - 1
+    );
+    let ran = Ran::of(Command::new("bash").args(["-c", &line]).output().unwrap());
+    assert_eq!((ran.status, ran.stderr.as_str()), (Some(0), ""));
+    ran.stdout
+}
+
+/// Where a file is due, bash's function offers nothing, so that bash offers files.
+#[test]
+fn options_are_offered_behind_a_hyphen() {
+    for command in ["report", "codes", "explain", "nightly", "assemble", "disassemble", "binarize", "clean"] {
+        assert_eq!(offered(&["ropeclover", command, ""]), "\n");
+        assert_eq!(offered(&["ropeclover", command, "--help", ""]), "\n");
+        assert_eq!(offered(&["ropeclover", command, "--he"]), "--help\n");
+        assert!(!offered(&["ropeclover", command, "-"]).contains('['));
+    }
+    assert_eq!(offered(&["ropeclover", "report", "--format", ""]), "text json\n");
+    assert!(offered(&["ropeclover", "completions", ""]).contains("bash elvish fish"));
+    assert!(offered(&["ropeclover", ""]).contains("report codes explain"));
+    assert!(offered(&["ropeclover", "help", ""]).contains("report codes explain"));
+}
+
+/// An interactive bash, whose user types a tab where nothing stands yet: the only file is offered.
+#[test]
+fn files_are_offered_where_nothing_is_typed() {
+    let folder = folder("complete");
+    std::fs::write(folder.join("radio.txt"), b"").unwrap();
+    let mut child = Command::new("timeout")
+        .args(["60", "script", "--quiet", "--return", "--command", "bash --norc --noprofile -i", "/dev/null"])
+        .current_dir(&folder)
+        .env("TERM", "dumb")
+        .stdin(Stdio::piped())
+        .stdout(Stdio::piped())
+        .spawn()
+        .unwrap();
+    let typed = format!(
+        "source <({COMMAND} completions bash); ropeclover() {{ echo \"taken: $*.\"; }}\nropeclover report \t\nexit\n"
+    );
+    let mut keyboard = child.stdin.take().unwrap();
+    keyboard.write_all(typed.as_bytes()).unwrap();
+    let ran = Ran::of(child.wait_with_output().unwrap());
+    drop(keyboard);
+    assert!(ran.stdout.contains("taken: report radio.txt."), "{}", ran.stdout);
 }

@@ -70,6 +70,16 @@ pub fn classes(kind: u8) -> Option<[Class; 3]> {
     }
 }
 
+/// How many fields a kind uses, its first ones; none for a byte that is no kind.
+///
+/// ```
+/// use ropeclover::format::used_fields;
+/// assert_eq!((used_fields(b'S'), used_fields(b'U'), used_fields(b'T'), used_fields(b'X')), (Some(1), Some(2), Some(3), None));
+/// ```
+pub fn used_fields(kind: u8) -> Option<usize> {
+    Some(classes(kind)?.iter().filter(|class| **class != Class::Unused).count())
+}
+
 /// The start symbol of a job that has an S record.
 ///
 /// ```

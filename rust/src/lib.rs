@@ -71,6 +71,7 @@ mod saturation;
 mod sequence;
 mod shuffle;
 pub mod text;
+mod words;
 mod workspace;
 
 pub use bits::{advance_bits, ask_bits, done_count, start_bits};
@@ -80,7 +81,11 @@ pub use entry::{reason_of, turn_of};
 pub use refusal::{Buffer, Refusal};
 pub use saturation::{Finished, Started};
 pub use shuffle::shuffled;
+pub use words::refusal_text;
 pub use workspace::{Explanation, Report, Workspace};
+
+/// The version of this crate, which is that of the C header.
+pub const VERSION: &str = env!("CARGO_PKG_VERSION");
 
 /// The bytes of a table that are read and written.
 ///

@@ -70,11 +70,12 @@ pub fn padded(record: [u8; 4]) -> LongRecord {
 /// assert!(is_long(b"L\0\x02\x20\x21\0\0\0\0\0\0\0"));
 /// assert!(!is_long(b"S\0\0\0I\0\0\0F\0\0\0"));
 /// assert!(!is_long(b"S\0\0\0"));
+/// assert!(!is_long(&[0; 24]));
 /// ```
 pub fn is_long(bytes: &[u8]) -> bool {
-    // In a job these two bytes are the kinds of records 1 and 2: letters, so above 64. In a long job they are symbols of record 0 or padding, so
-    // below it.
-    bytes.len() >= LONG_RECORD_BYTES && bytes[4] < 64 && bytes[8] < 64
+    // In a job the two bytes are the kinds of records 1 and 2: letters, so above 64. In a long job they are symbols of record 0 or padding, so
+    // below it. Where not even the first byte is a kind's letter, it is neither, and is read as the proved programs read it.
+    bytes.len() >= LONG_RECORD_BYTES && bytes[0].is_ascii_alphabetic() && bytes[4] < 64 && bytes[8] < 64
 }
 
 /// The symbols of an L record's body: as many as its length says, at most eight.
@@ -203,4 +204,44 @@ pub fn fresh(long: &[u8], job: &[u8]) -> Vec<u8> {
     let records = job.chunks_exact(4).filter_map(|bytes| <[u8; 4]>::try_from(bytes).ok());
     let written: Vec<u8> = records.flat_map(padded).collect();
     named(&written).difference(&named(long)).copied().collect()
+}
+
+/// What a variable that was taken for the job of a long job stands for: the end of a long rule's body.
+///
+/// ```
+/// use ropeclover::{long, text};
+/// let read = text::read("S 0\nL 0 32 1 33 1\nU 1 34\nI 0\n").unwrap();
+/// let tails = long::tails(&read.job, &long::binarized(&read.job).unwrap());
+/// assert_eq!(tails[1], long::Tail { variable: 3, head: 0, rule: 1, from: 3 });
+/// ```
+#[derive(Clone, Copy, Debug, PartialEq, Eq)]
+pub struct Tail {
+    /// The variable.
+    pub variable: u8,
+    /// The head of the rule.
+    pub head: u8,
+    /// Which of the rules with this head and a body of more than two symbols it is, from 1.
+    pub rule: usize,
+    /// The place of the tail's first symbol in the body, from 1.
+    pub from: usize,
+}
+
+/// What each variable that was taken for the job stands for. They are taken in ascending order, by the records and along each body.
+///
+/// ```
+/// use ropeclover::{long, text};
+/// let read = text::read("S 1\nL 1 1 32 1 33\nI 0\n").unwrap();
+/// let tails = long::tails(&read.job, &long::binarized(&read.job).unwrap());
+/// assert_eq!(tails.iter().map(|tail| (tail.variable, tail.from)).collect::<Vec<_>>(), [(0, 2), (2, 3)]);
+/// ```
+pub fn tails(long: &[u8], job: &[u8]) -> Vec<Tail> {
+    let mut variables = fresh(long, job).into_iter();
+    let mut tails: Vec<Tail> = Vec::new();
+    let records = long.chunks_exact(LONG_RECORD_BYTES).filter_map(|bytes| LongRecord::try_from(bytes).ok());
+    for record in records.filter(|record| record[0] == KIND && body(record).len() > 2) {
+        let rule = 1 + tails.iter().filter(|tail| tail.head == record[1] && tail.from == 2).count();
+        let places = 2..body(&record).len();
+        tails.extend(places.zip(&mut variables).map(|(from, variable)| Tail { variable, head: record[1], rule, from }));
+    }
+    tails
 }

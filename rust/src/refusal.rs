@@ -291,11 +291,17 @@ impl Refusal {
     }
 }
 
+/// A number of things in words: one has no plural.
+fn counted(number: u64, thing: &str) -> String {
+    format!("{number} {thing}{}", if number == 1 { "" } else { "s" })
+}
+
 impl fmt::Display for Refusal {
     fn fmt(&self, f: &mut fmt::Formatter<'_>) -> fmt::Result {
         match self {
             Refusal::PartialRecord { records } => {
-                write!(f, "the job's length is not a multiple of 4: bytes are left over after {records} whole records")
+                let whole = counted(*records, "whole record");
+                write!(f, "the job's length is not a multiple of 4: bytes are left over after {whole}")
             }
             Refusal::JobTooLong { bytes } => write!(f, "the job has {bytes} bytes; at most 16384 are taken"),
             Refusal::UnknownKind { record } => {
@@ -311,10 +317,10 @@ impl fmt::Display for Refusal {
             }
             Refusal::TooManyRules { record } => write!(f, "record {record} is the 257th rule; at most 256 are taken"),
             Refusal::NoStart { records } => {
-                write!(f, "none of the {records} records is an S record: the start symbol is missing")
+                write!(f, "there is no S record among {}: the start symbol is missing", counted(*records, "record"))
             }
             Refusal::NoInitial { records } => {
-                write!(f, "none of the {records} records is an I record: the initial state is missing")
+                write!(f, "there is no I record among {}: the initial state is missing", counted(*records, "record"))
             }
             Refusal::ShortBuffer(Buffer::Table) => write!(f, "the lent table has fewer than 65536 bytes"),
             Refusal::ShortBuffer(Buffer::Bits) => write!(f, "the lent bit table has fewer than 16384 bytes"),
@@ -325,7 +331,8 @@ impl fmt::Display for Refusal {
             }
             Refusal::FormTooLong { symbols } => write!(f, "the form has {symbols} symbols; at most 64 are taken"),
             Refusal::ListingTooShort { records } => {
-                write!(f, "the lent listing is too short: {records} records of 8 bytes are needed")
+                let records = counted(*records, "record");
+                write!(f, "the lent listing is too short: room for {records} of 8 bytes is needed")
             }
             Refusal::TooFewVariables { record } => {
                 write!(f, "record {record} takes more variables than are free: those of 0 to 31 that no record names")
@@ -334,7 +341,8 @@ impl fmt::Display for Refusal {
                 write!(f, "record {record} has a length over 8, or a byte past its body or fields that is not 0")
             }
             Refusal::PartialLongRecord { records } => {
-                write!(f, "the long job's length is not a multiple of 12: bytes are left over after {records} whole records")
+                let whole = counted(*records, "whole record");
+                write!(f, "the long job's length is not a multiple of 12: bytes are left over after {whole}")
             }
             Refusal::LongJobTooLong { bytes } => write!(f, "the long job has {bytes} bytes; at most 49152 are taken"),
             Refusal::WrittenTooLong { bytes } => {
@@ -347,7 +355,8 @@ impl fmt::Display for Refusal {
                 write!(f, "the 257th rule is written for record {record}; at most 256 are taken")
             }
             Refusal::JobTooShort { records } => {
-                write!(f, "the lent buffer is too short for the job written: {records} records of 4 bytes are needed")
+                let records = counted(*records, "record");
+                write!(f, "the lent buffer is too short for the job written: room for {records} of 4 bytes is needed")
             }
             Refusal::Other { number, place } => write!(f, "refused by {number} at {place}"),
         }

@@ -58,11 +58,9 @@ fn compare(test: &str, bodies: Pairs) {
         // Every symbol and every part of the word: the sets M[i][j] of the algorithm.
         let sets = cky::sets(&grammar, &word);
         let done = |q: usize, x: usize, r: usize| workspace.table()[q * 2048 + x * 32 + r] >= 2;
-        for i in 0..length {
-            for d in 0..length - i {
-                for x in 0..64 {
-                    assert_eq!(done(i, x, i + d + 1), sets[i][d] >> x & 1 == 1);
-                }
+        for (i, row) in sets.iter().enumerate().take(length) {
+            for (d, set) in row.iter().enumerate().take(length - i) {
+                (0..64).for_each(|x| assert_eq!(done(i, x, i + d + 1), set >> x & 1 == 1));
             }
         }
         // Forms of two symbols, by splitting the word.

@@ -246,5 +246,5 @@ fn refusals_keep_their_number_and_place() {
         assert_eq!((refusal.number(), refusal.place()), (number, place));
         assert_eq!(refusal == Refusal::new(number, place), number != 13);
     }
-    assert!(Refusal::of_clean(13, 257).to_string().ends_with("257 records of 4 bytes are needed"));
+    assert!(Refusal::of_clean(13, 257).to_string().ends_with("room for 257 records of 4 bytes is needed"));
 }

@@ -46,7 +46,7 @@ fn a_listing_that_is_too_short() {
         assert_eq!(refused, Err(Refusal::new(13, 9)));
         assert!(listing.iter().all(|byte| *byte == 7));
         let (mut other_table, mut other_reasons) = lent();
-        explain(&job, &mut other_table, &mut other_reasons, &[0], &mut vec![0; 72]).unwrap();
+        explain(&job, &mut other_table, &mut other_reasons, &[0], &mut [0; 72]).unwrap();
         assert!(table == other_table && reasons == other_reasons);
     }
 }

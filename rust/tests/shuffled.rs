@@ -1,7 +1,7 @@
 //! The same list of calls on a job and on its records in another order, refused calls included.
 mod support;
 
-use ropeclover::{advance, ask, explain, start, verdicts};
+use ropeclover::{advance, advance_bits, ask, ask_bits, done_count, explain, start, start_bits, verdicts, BIT_TABLE_BYTES};
 use support::jobs::{self, Pairs};
 use support::{seed, Random};
 
@@ -32,6 +32,36 @@ fn run(job: &[u8], pairs: Pairs, mut random: Random, lengths: (usize, usize)) ->
     (Answers(answers), table, reason)
 }
 
+/// The same for the calls on a bit table.
+fn run_on_bits(job: &[u8], pairs: Pairs, mut random: Random, lengths: (usize, usize)) -> (Answers, Vec<u8>, Vec<u32>) {
+    // Some places pending, some done and some with both bits.
+    let mut bits: Vec<u8> = (0..lengths.0).map(|_| random.byte_below(256) & random.byte_below(256)).collect();
+    let mut reason = vec![77; lengths.1];
+    let mut answers = vec![];
+    for _ in 0..8 {
+        answers.push(match random.below(6) {
+            0 => format!("{:?}", start_bits(job, &mut bits, &mut reason)),
+            1..=3 => format!("{:?}", advance_bits(job, &mut bits, &mut reason, random.below(60) as u64)),
+            4 => format!("{:?}", ask_bits(job, &bits, &pairs.form(&mut random, job))),
+            _ => format!("{:?}", done_count(&bits)),
+        });
+    }
+    (Answers(answers), bits, reason)
+}
+
+fn runs_on_bits_are_alike(test: &str, pairs: Pairs) {
+    let mut random = seed(test);
+    for _ in 0..300 {
+        let job = jobs::accepted(&mut random, pairs);
+        let other = jobs::shuffled(&mut random, &job);
+        let tables = BIT_TABLE_BYTES - usize::from(random.one_in(12)) + random.below(3);
+        let reasons = 32_768 - usize::from(random.one_in(12));
+        let calls = random.next();
+        let run = |job| run_on_bits(job, pairs, Random::new(calls), (tables, reasons));
+        assert_eq!(run(&job), run(&other));
+    }
+}
+
 fn runs_are_alike(test: &str, pairs: Pairs) {
     let mut random = seed(test);
     for _ in 0..300 {
@@ -53,4 +83,14 @@ fn plain_and_shuffled_runs_are_alike() {
 #[test]
 fn plain_and_shuffled_runs_on_terminals_in_pairs_are_alike() {
     runs_are_alike("plain_and_shuffled_runs_on_terminals_in_pairs_are_alike", Pairs::Symbols);
+}
+
+#[test]
+fn plain_and_shuffled_runs_on_bits_are_alike() {
+    runs_on_bits_are_alike("plain_and_shuffled_runs_on_bits_are_alike", Pairs::Variables);
+}
+
+#[test]
+fn plain_and_shuffled_runs_on_bits_and_terminals_in_pairs_are_alike() {
+    runs_on_bits_are_alike("plain_and_shuffled_runs_on_bits_and_terminals_in_pairs_are_alike", Pairs::Symbols);
 }

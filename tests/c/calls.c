@@ -70,6 +70,39 @@ static void takes_entries_apart(void)
     same("a turn of a sum", ROPECLOVER_TURN(65536u * 7 + 33), 7);
 }
 
+/* The version is one in all its spellings, and every refusal has words of its own. */
+static void says_versions_and_refusals(void)
+{
+    char spelled[32];
+    snprintf(spelled, sizeof spelled, "%d.%d.%d", ROPECLOVER_VERSION_MAJOR, ROPECLOVER_VERSION_MINOR, ROPECLOVER_VERSION_PATCH);
+    same("the version's parts", strcmp(spelled, ropeclover_version()), 0);
+    same("the version", strcmp(ROPECLOVER_VERSION, ropeclover_version()), 0);
+    for (uint64_t number = 0; number <= 15; number++) {
+        same("a known refusal", strcmp(ropeclover_refusal_text(number), ropeclover_refusal_text(99)) != 0, 1);
+        for (uint64_t other = 0; other < number; other++) {
+            same("two refusals", strcmp(ropeclover_refusal_text(number), ropeclover_refusal_text(other)) != 0, 1);
+        }
+    }
+    same("an unknown refusal", ropeclover_refusal_text(16) == ropeclover_refusal_text(UINT64_MAX), 1);
+}
+
+/* The places of an answer have names, which say what the functions' comments say. */
+static void names_answers(void)
+{
+    uint64_t answer[ROPECLOVER_ANSWER_NUMBERS];
+    ropeclover_start(job, sizeof job, table, sizeof table, reasons, ROPECLOVER_REASONS, answer);
+    same("states by name", answer[ROPECLOVER_NUMBER_OF_STATES], 3);
+    ropeclover_advance(job, sizeof job, table, sizeof table, reasons, ROPECLOVER_REASONS, ROPECLOVER_STEPS, answer);
+    same("finished by name", answer[ROPECLOVER_IS_FINISHED], 1);
+    same("steps by name", answer[ROPECLOVER_STEPS_MADE], 11);
+    same("meetings by name", answer[ROPECLOVER_MEETINGS], 8);
+    ropeclover_show(job, sizeof job - 4, answer);
+    same("nothing shown by name", answer[ROPECLOVER_SHOWN_LENGTH], 0);
+    ropeclover_start(job, sizeof job - 1, table, sizeof table, reasons, ROPECLOVER_REASONS, answer);
+    same("a refusal by name", answer[ROPECLOVER_NUMBER], ROPECLOVER_PARTIAL_RECORD);
+    same("its place by name", answer[ROPECLOVER_PLACE], 9);
+}
+
 static void saturates(void)
 {
     uint64_t answer[5];
@@ -606,6 +639,8 @@ static void has_limits_of_clean(void)
 int main(void)
 {
     takes_entries_apart();
+    says_versions_and_refusals();
+    names_answers();
     saturates();
     starts_at_turn_0();
     has_a_largest_turn();

@@ -4,7 +4,7 @@ use crate::args::{Assemble, Binarize, Clean, Disassemble, Format};
 use crate::failure::{complain, Failure};
 use crate::input::{self, Input, Unreadable};
 use crate::{output, print};
-use ropeclover::text::{self, Names};
+use ropeclover::text::{self, FormLine, Names};
 use ropeclover::Workspace;
 
 /// The text of a job's or a long job's bytes.
@@ -24,9 +24,18 @@ pub fn disassemble(options: &Disassemble) -> Result<(), Failure> {
     output::write(|output| output.write_all(&text))
 }
 
+/// The form lines of an input as they stand, but for one with the name of a variable that a long rule took: it would be unknown.
+fn form_lines(input: &Input) -> String {
+    let still = |form: &&FormLine| input.names.form(&form.text).as_ref() == Ok(&form.symbols);
+    input.forms.iter().filter(still).map(|form| format!("form {}\n", form.text)).collect()
+}
+
 pub fn binarize(options: &Binarize) -> Result<(), Failure> {
     let input = input::read_long(options.file.as_deref())?;
-    let written = if options.text { printed(&input, &input.job, &input.names)? } else { input.job };
+    let written = match options.text {
+        true => [printed(&input, &input.job, &input.names)?, form_lines(&input).into_bytes()].concat(),
+        false => input.job,
+    };
     output::write(|output| output.write_all(&written))
 }
 

@@ -1,7 +1,7 @@
 //! Why a form is accepted.
 use super::refused;
 use crate::args::{Explain, Format};
-use crate::failure::Failure;
+use crate::failure::{complain, Failure};
 use crate::input::{self, Input};
 use crate::print::turns::Turns;
 use crate::{form, json, output, print, quote};
@@ -14,7 +14,9 @@ fn form(options: &Explain, input: &Input) -> Result<Vec<u8>, Failure> {
         return Ok(start_symbol(&input.job).into_iter().collect());
     }
     let unknown = |message| Failure::Usage(format!("error: {message}\n"));
-    form::read(&options.symbols.join(" "), &input.names).map_err(unknown)
+    let text = options.symbols.join(" ");
+    form::warnings(&text, &input.names).iter().for_each(|warning| complain(warning));
+    form::read(&text, &input.names).map_err(unknown)
 }
 
 /// A hint where the first word is no file, as symbols come after one.
@@ -34,7 +36,7 @@ pub fn explain(options: &Explain) -> Result<(), Failure> {
     let failed = |failure: Failure| hint(failure.in_format(options.format), options);
     let mut input = input::read(options.file.as_deref()).map_err(failed)?;
     let form = form(options, &input)?;
-    input.form = form.iter().map(|symbol| input.names.symbol(*symbol).into_owned()).collect();
+    input.form = form::quoted(&form, &input.names);
     let mut memory = Workspace::new();
     let explanation = memory.explain(&input.job, &form).map_err(refused(&input, options.format))?;
     let (names, turns) = (&input.names, Turns::new(&memory, options.turns));

@@ -13,11 +13,15 @@ use crate::failure::Failure;
 use crate::output::yes_no;
 use crate::print::listing;
 use ropeclover::text::Names;
-use std::collections::BTreeMap;
-use std::io;
+use std::collections::{BTreeMap, BTreeSet};
+use std::fs::File;
+use std::io::{self, Read};
 use std::path::{Path, PathBuf};
 
 const TITLE: &str = "ropeclover baseline 1";
+
+/// The longest baseline in bytes: room for over a thousand files with every symbol named at length, and many forms.
+const BASELINE_BYTES: usize = 1 << 24;
 
 /// What was seen of a file: labels and values, in order.
 type Seen = Vec<(String, String)>;
@@ -29,13 +33,37 @@ pub struct Baseline {
     changed: bool,
 }
 
-fn malformed(path: &Path, line: usize) -> Failure {
-    let error = io::Error::new(io::ErrorKind::InvalidData, format!("line {line} is no part of a baseline"));
-    Failure::File { name: crate::input::name(Some(path)), error }
-}
-
 fn failed(path: &Path) -> impl FnOnce(io::Error) -> Failure + '_ {
     move |error| Failure::File { name: crate::input::name(Some(path)), error }
+}
+
+fn invalid(path: &Path, message: String) -> Failure {
+    failed(path)(io::Error::new(io::ErrorKind::InvalidData, message))
+}
+
+fn malformed(path: &Path, line: usize) -> Failure {
+    invalid(path, format!("line {line} is no part of a baseline"))
+}
+
+/// An error where a baseline is longer than is read.
+fn check_length(path: &Path, length: usize) -> Result<(), Failure> {
+    if length <= BASELINE_BYTES {
+        return Ok(());
+    }
+    Err(invalid(path, format!("a baseline has at most {BASELINE_BYTES} bytes")))
+}
+
+/// The text of a baseline, of which no more is read than tells that it is too long; a file that does not exist says nothing yet.
+fn text(path: &Path) -> Result<String, Failure> {
+    let mut bytes = Vec::new();
+    let most = BASELINE_BYTES as u64 + 1;
+    match File::open(path).and_then(|file| file.take(most).read_to_end(&mut bytes)) {
+        Ok(_) => {}
+        Err(error) if error.kind() == io::ErrorKind::NotFound => return Ok(format!("{TITLE}\n")),
+        Err(error) => return Err(failed(path)(error)),
+    }
+    check_length(path, bytes.len())?;
+    String::from_utf8(bytes).map_err(|_| invalid(path, "a baseline is UTF-8 text".into()))
 }
 
 /// What is seen of a file now.
@@ -63,33 +91,33 @@ fn value<'a>(seen: &'a Seen, label: &str) -> Option<&'a str> {
     seen.iter().find(|(other, _)| other == label).map(|(_, value)| value.as_str())
 }
 
-/// The first difference. A form that only one side has is none: other forms were asked for.
-fn first_difference(last: &Seen, now: &Seen) -> Option<String> {
-    let labels = now.iter().chain(last).map(|(label, _)| label);
-    for label in labels {
-        match (value(last, label), value(now, label)) {
-            (Some(before), Some(after)) if before == after => {}
-            (None, _) | (_, None) if label.starts_with("form ") => {}
-            (before, after) => {
-                return Some(format!(
-                    "{label} was {}, is {}",
-                    before.unwrap_or("not there"),
-                    after.unwrap_or("not there")
-                ));
-            }
+/// What weighs most is told first: the report's three answers, then codes by name, forms, and counts.
+fn weight(label: &str) -> usize {
+    let kinds = ["start", "empty", "growing", "code ", "form "];
+    kinds.iter().position(|kind| label.starts_with(kind)).unwrap_or(kinds.len())
+}
+
+/// What differs, the weightiest first. A form that only one side has is no difference: other forms were asked for.
+fn differences(last: &Seen, now: &Seen) -> Vec<String> {
+    let values = |seen: &Seen| seen.iter().cloned().collect::<BTreeMap<String, String>>();
+    let (last, now) = (values(last), values(now));
+    let labels: BTreeSet<(usize, &String)> =
+        last.keys().chain(now.keys()).map(|label| (weight(label), label)).collect();
+    let difference = |(_, label): (usize, &String)| match (last.get(label), now.get(label)) {
+        (before, after) if before == after => None,
+        (None, _) | (_, None) if label.starts_with("form ") => None,
+        (before, after) => {
+            let [before, after] = [before, after].map(|value| value.map_or("not there", String::as_str));
+            Some(format!("{label} was {before}, is {after}"))
         }
-    }
-    None
+    };
+    labels.into_iter().filter_map(difference).collect()
 }
 
 impl Baseline {
-    /// Reads a baseline; a file that does not exist says nothing yet.
+    /// Reads a baseline.
     pub fn read(path: &Path, update: bool) -> Result<Self, Failure> {
-        let text = match std::fs::read_to_string(path) {
-            Ok(text) => text,
-            Err(error) if error.kind() == io::ErrorKind::NotFound => format!("{TITLE}\n"),
-            Err(error) => return Err(failed(path)(error)),
-        };
+        let text = text(path)?;
         let mut files: BTreeMap<String, Seen> = BTreeMap::new();
         let mut lines = text.lines().enumerate();
         lines.next().filter(|(_, title)| *title == TITLE).ok_or_else(|| malformed(path, 1))?;
@@ -106,18 +134,25 @@ impl Baseline {
     }
 
     /// Compares what is seen of a file with what was last seen, and takes what is new. What differs is kept, but for an update.
-    pub fn compare(&mut self, name: &str, now: Seen) -> Option<String> {
+    pub fn compare(&mut self, name: &str, now: Seen) -> Vec<String> {
         let Some(last) = self.files.get_mut(name).filter(|_| !self.update) else {
             self.changed |= self.files.insert(name.into(), now.clone()) != Some(now);
-            return None;
+            return vec![];
         };
-        let difference = first_difference(last, &now);
-        if difference.is_none() {
+        let differences = differences(last, &now);
+        if differences.is_empty() {
             let new: Seen = now.into_iter().filter(|(label, _)| value(last, label).is_none()).collect();
             self.changed |= !new.is_empty();
             last.extend(new);
         }
-        difference
+        differences
+    }
+
+    /// What to say of each file that it has and that is not among these.
+    pub fn unchecked(&self, names: &[String]) -> Vec<String> {
+        let missing = self.files.keys().filter(|name| !names.contains(name));
+        let path = crate::input::name(Some(&self.path));
+        missing.map(|name| format!("{path}: {name} was seen last time, and is not checked now")).collect()
     }
 
     /// Writes the baseline if something is new. The file is replaced at once, so that no half of it is ever read.
@@ -130,6 +165,7 @@ impl Baseline {
             text.push_str(&format!("\nfile {name}\n"));
             seen.iter().for_each(|(label, value)| text.push_str(&format!("{label} = {value}\n")));
         }
+        check_length(&self.path, text.len())?;
         let mut new = self.path.clone().into_os_string();
         new.push(".new");
         std::fs::write(&new, text).and_then(|()| std::fs::rename(&new, &self.path)).map_err(failed(&self.path))

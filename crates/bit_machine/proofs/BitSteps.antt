@@ -6,16 +6,17 @@ use Rattle.grammar.specs.Rule.{Rule}
 use Rattle.machine.specs.Table.{Lent, lentOf, tableSize, tablePlace, fromState, symbolAt, toState, Status, Statuses}
 use Rattle.machine.specs.Table.{saysAbsent, saysPending, saysDone, isAbsentAt, isDoneAt, statuses}
 use Rattle.machine.specs.Step.{lowest, isFinished, comesIn, statusAfter, taking}
-use Rattle.machine.specs.Advance.{steps}
+use Rattle.machine.specs.Advance.{steps, stepsMade, meetingsMade}
 use Rattle.machine.proofs.Tables.Each.{getD-each-0}
 use Rattle.machine.proofs.Tables.Lowest.{lowest-is-pending}
 use Rattle.machine.proofs.Steps.Taking.{taking-length, taking-says}
-use Rattle.machine.proofs.Steps.StepLaws.{step-taking, steps-keep, steps-done-kept, steps-add}
+use Rattle.machine.proofs.Steps.StepLaws.{step-taking, steps-keep, steps-done-kept, steps-add, steps-made-add}
+use Rattle.machine.proofs.Steps.MeetingsMade.{meetings-made-add}
 use Rattle.bit_machine.specs.BitTable.{bitsSize, pendingHalf, doneHalf, bitAt, bitStatus, bitStatuses, hasBoth}
 use Rattle.machine.specs.Table.{statusByte}
 use Rattle.bit_machine.specs.BitTable.{saying, tableOfBits}
 use Rattle.bit_machine.specs.Machine.{asBytes, stepsBits}
-use Rattle.bit_machine.specs.Theorems.Steps.{StepInBits}
+use Rattle.bit_machine.specs.Theorems.Steps.{StepInBits, JoinedBits}
 use Rattle.bit_machine.proofs.ByteTables.{bytes-length, byte-at, bytes-say}
 use Rattle.bit_machine.proofs.Rewriting.{Plain, rewritten-length, bit-rewritten, write-again, said-again, both-kept}
 use Rattle.bit_machine.proofs.Rewriting.{bytes-again}
@@ -85,7 +86,7 @@ module _ (ρs : List Rule) (m : Lent) (long : bitsSize ≤ length (m .table)) (n
       (steps-keep (λ m'. Plain (m' .table)) ρs (λ m' f k. taking-plain ρs _ m' k) n (asBytes m)
       (bytes-plain (m .table))))
 
--- a steps and then b are a + b steps
+-- a steps and then b are a + b steps, and their counts add up
 module _ (ρs : List Rule) (m : Lent) (long : bitsSize ≤ length (m .table)) (a b : ℕ) where
   then-bytes : steps ρs b (asBytes (stepsBits ρs a m)) ≡ steps ρs (a + b) (asBytes m)
   then-bytes = ap (steps ρs b) (steps-bytes ρs m long a) ∙ sym (steps-add ρs a b (asBytes m))
@@ -97,10 +98,20 @@ module _ (ρs : List Rule) (m : Lent) (long : bitsSize ≤ length (m .table)) (a
       ap₂ (λ (x : Lent) (both : Bool). saying (λ _. both) (statuses (x .table)) half p) then-bytes
       (steps-both ρs m long a p l)
 
-  pub steps-bits-add : stepsBits ρs (a + b) m ≡ stepsBits ρs b (stepsBits ρs a m)
+  steps-bits-add : stepsBits ρs (a + b) m ≡ stepsBits ρs b (stepsBits ρs a m)
   unfolding stepsBits
   steps-bits-add =
-      sym (ap₂ lentOf (write-again _ _ _ (m .table) then-bits) (ap (λ x. x .reasons) then-bytes))
+      sym (ap₂ lentOf (write-again _ _ then-bits _ (m .table)) (ap (λ x. x .reasons) then-bytes))
+
+  pub joined-bits : JoinedBits ρs m a b
+  joined-bits =
+      let bytes = sym (steps-bytes ρs m long a) in
+      record {
+        lent = steps-bits-add;
+        made = steps-made-add ρs a b (asBytes m) ∙ ap (λ x. stepsMade ρs a (asBytes m) + stepsMade ρs b x) bytes;
+        met = meetings-made-add ρs a b (asBytes m)
+            ∙ ap (λ x. meetingsMade ρs a (asBytes m) + meetingsMade ρs b x) bytes;
+      }
 
 -- the bits of a place after a step, by those before: the place that is taken is pending, and what comes in is absent
 pending-after : (taken comes pending done : Bool) → (taken ≡ true → saysPending (bitStatus pending done) ≡ true) →

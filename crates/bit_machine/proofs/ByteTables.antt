@@ -54,17 +54,17 @@ module _ (bits : List ℕ) (p : ℕ) (h : p < tableSize) where
   byte-done = ap saysDone says
 
 -- its done places are the ones of the done half
+pub done-says : (pending done : Bool) → saysDone (bitStatus pending done) ≡ done
+done-says true true = refl
+done-says false true = refl
+done-says true false = refl
+done-says false false = refl
+
 pub bytes-done-count : (bits : List ℕ) → doneBits bits ≡ doneCount (statuses (tableOfBits bits))
 unfolding doneBits doneCount bitStatuses
 bytes-done-count bits =
     count-cong (bitAt bits doneHalf) _ tableSize
     (λ p h. sym (ap saysDone (bytes-say bits p h) ∙ done-says (bitAt bits pendingHalf p) (bitAt bits doneHalf p)))
-  where
-    done-says : (pending done : Bool) → saysDone (bitStatus pending done) ≡ done
-    done-says true true = refl
-    done-says false true = refl
-    done-says true false = refl
-    done-says false false = refl
 
 module _ (bits bits' : List ℕ) where
   -- all such tables have one length

@@ -14,5 +14,8 @@ pub mod Offers
 pub mod StateWords
 pub mod Rewriting
 pub mod BitSteps
+pub mod FirstBits
 pub mod Alongside
+pub mod BitTurns
+pub mod BitsKept
 pub mod RunChecks

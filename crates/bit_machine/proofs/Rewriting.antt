@@ -2,9 +2,10 @@
 -- was to be said, the places that were to have both bits have both, and its bytes are those written. Assumes nothing.
 use Rattle.grammar.proofs.Basics.{_≡_, refl, _∙_, sym, ap, true, false, false≢true, Bool, _&&_, _||_, List, ℕ}
 use Rattle.grammar.proofs.Basics.{_<_, _≤_, _+_, _*_, _/_, _%_, suc, zero, arith, leb, length, getD, ext-getD, cases}
-use Rattle.grammar.proofs.Basics.{leb-true, leb-false, lt-leb, le-leb}
+use Rattle.grammar.proofs.Basics.{leb-true, leb-false, lt-leb, le-leb, take}
 use Rattle.machine.specs.Table.{tableSize, Status, byteStatus, saysPending, saysDone, Statuses, isDoneAt, statuses}
 use Rattle.machine.proofs.Tables.Each.{length-each, getD-each-0}
+use Rattle.machine.proofs.Steps.FirstPart.{take-alike}
 use Rattle.bit_machine.specs.BitTable.{bitsSize, halfSize, pendingHalf, doneHalf, bitOf, bitAt, bitStatus, bitStatuses}
 use Rattle.machine.specs.Table.{statusByte}
 use Rattle.bit_machine.specs.BitTable.{hasBoth, byteOfBits, writeBits, saying, tableOfBits}
@@ -24,7 +25,7 @@ module _ (test : ℕ → ℕ → Bool) (bits : List ℕ) where
   unfolding writeBits
   rewritten-at i l h = getD-each-0 _ bits i h ∙ rw (lt-leb bitsSize i l)
 
-  rewritten-past : (i : ℕ) → bitsSize ≤ i → i < length bits → getD (writeBits test bits) i 0 ≡ getD bits i 0
+  pub rewritten-past : (i : ℕ) → bitsSize ≤ i → i < length bits → getD (writeBits test bits) i 0 ≡ getD bits i 0
   unfolding writeBits
   rewritten-past i l h = getD-each-0 _ bits i h ∙ rw (le-leb bitsSize i l)
 
@@ -38,16 +39,23 @@ module _ (test : ℕ → ℕ → Bool) (bits : List ℕ) where
       ap (λ (x : ℕ). bitOf x (p % 8)) (rewritten-at (half * halfSize + p / 8) i (omega arith))
       ∙ bit-of-byte _ (p % 8) (omega arith) ∙ rw (of-half, of-place)
 
--- what is written a second time stands alone, and what two tests that agree write is equal
-module _ (test test' other : ℕ → ℕ → Bool) (bits : List ℕ)
+-- what two tests that agree write is equal, whatever stood there, and what is written a second time stands alone
+module _ (test test' : ℕ → ℕ → Bool)
     (agree : (half p : ℕ) → half < 2 → p < tableSize → test half p ≡ test' half p) where
   byte-agree : (i : ℕ) → i < bitsSize → byteWritten test i ≡ byteWritten test' i
   byte-agree i l =
       byte-of-bits _ _ (byte-of-below (λ j. test' (i / halfSize) (i % halfSize * 8 + j)))
       (λ j b. agree (i / halfSize) (i % halfSize * 8 + j) (omega arith) (omega arith) ∙ sym (bit-of-byte _ j b))
 
-  pub write-again : writeBits test (writeBits other bits) ≡ writeBits test' bits
-  write-again =
+  pub write-alike : (bits bits' : List ℕ) → length bits ≡ length bits' →
+      take bitsSize (writeBits test bits) ≡ take bitsSize (writeBits test' bits')
+  unfolding writeBits
+  write-alike bits bits' long =
+      take-alike bitsSize _ _ bits bits' (rw long) (λ i l. rw (lt-leb bitsSize i l) (byte-agree i l))
+
+  pub write-again : (other : ℕ → ℕ → Bool) (bits : List ℕ) →
+      writeBits test (writeBits other bits) ≡ writeBits test' bits
+  write-again other bits =
       let once = rewritten-length other bits in
       ext-getD 0 _ _ (rewritten-length test _ ∙ once ∙ sym (rewritten-length test' bits))
       (λ i h.

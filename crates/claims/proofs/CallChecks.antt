@@ -6,31 +6,36 @@ use Rattle.job.specs.Check.{jobCheck, shortBuffer, shortTable, shortReasons, or
 use Rattle.job.specs.Accepted.{Accepted}
 use Rattle.job.proofs.JobChecks.{check-number}
 use Rattle.machine.specs.Table.{Lent, tableSize, reasonsSize}
-use Rattle.machine.specs.Operations.{machineCheck, machineCheckBy}
-use Rattle.forms.specs.Operations.{formCheck, askCheck, askCheckBy, explainCheck, explainCheckBy}
+use Rattle.machine.specs.Operations.{machineCheckBy}
+use Rattle.bit_machine.specs.Operations.{shortBits}
+use Rattle.forms.specs.Operations.{formCheck, explainCheck, explainCheckBy}
 use Rattle.forms.proofs.FormChecks.{form-number}
 use Rattle.verdicts.specs.Operation.{verdictsCheck, verdictsCheckBy}
-use Rattle.claims.specs.Call.{Call, start, advance, ask, explain, verdicts}
+use Rattle.claims.specs.Call.{Kind, bytes, bits, Call, start, advance, ask, explain, verdicts, count}
 use Rattle.claims.specs.Alike.{SameLengths, SameCall, same-start, same-advance, same-ask, same-explain}
-use Rattle.claims.specs.Alike.{same-verdicts}
+use Rattle.claims.specs.Alike.{same-verdicts, same-count}
+use Rattle.claims.proofs.EitherTable.{checkOn, askCheckOn, check-on-alike, ask-check-alike}
 
 -- the check of a call
-unfoldable pub callCheck : List ℕ → Lent → Call → Checked
-callCheck job m start = machineCheck job m
-callCheck job m (advance n) = machineCheck job m
-callCheck job m (ask form) = askCheck job (m .table) form
-callCheck job m (explain form listing) = explainCheck job m form
-callCheck job m (verdicts codes) = verdictsCheck job (m .table) codes
+unfoldable pub callCheck : (k : Kind) → List ℕ → Lent → Call k → Checked
+callCheck k job m start = checkOn k job m
+callCheck k job m (advance n) = checkOn k job m
+callCheck k job m (ask form) = askCheckOn k job (m .table) form
+callCheck bytes job m (explain form listing) = explainCheck job m form
+callCheck bytes job m (verdicts codes) = verdictsCheck job (m .table) codes
+callCheck bits job m count = shortBits (m .table)
 
 pub call-check-alike :
-    (a b : List ℕ) → ((needed : Bool) → jobCheck needed a ≡ jobCheck needed b) → (m n : Lent) →
-    SameLengths m n → {c d : Call} → SameCall c d → callCheck a m c ≡ callCheck b n d
-unfolding callCheck machineCheckBy askCheckBy explainCheckBy verdictsCheckBy
-call-check-alike a b e m n long same-start = rw (long .table, long .reasons, e true)
-call-check-alike a b e m n long (same-advance k) = rw (long .table, long .reasons, e true)
-call-check-alike a b e m n long (same-ask form) = rw (long .table, e true)
-call-check-alike a b e m n long (same-explain form out other same) = rw (long .table, long .reasons, e true)
-call-check-alike a b e m n long (same-verdicts codes other same) = rw (long .table, same, e false)
+    (k : Kind) (a b : List ℕ) → ((needed : Bool) → jobCheck needed a ≡ jobCheck needed b) → (m n : Lent) →
+    SameLengths m n → {c d : Call k} → SameCall k c d → callCheck k a m c ≡ callCheck k b n d
+unfolding callCheck machineCheckBy explainCheckBy verdictsCheckBy
+call-check-alike k a b e m n long same-start = check-on-alike k a b (e true) m n long
+call-check-alike k a b e m n long (same-advance j) = check-on-alike k a b (e true) m n long
+call-check-alike k a b e m n long (same-ask form) =
+    ask-check-alike k a b (e true) (m .table) (n .table) form (long .table)
+call-check-alike bytes a b e m n long (same-explain form out other same) = rw (long .table, long .reasons, e true)
+call-check-alike bytes a b e m n long (same-verdicts codes other same) = rw (long .table, same, e false)
+call-check-alike bits a b e m n long same-count = rw (long .table)
 
 -- the refusals of explain's checks come before 13
 either-number : (k : ℕ) (c d : Checked) → c .number ≤ k → d .number ≤ k → orElse c d .number ≤ k

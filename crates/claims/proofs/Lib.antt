@@ -1,3 +1,4 @@
+pub mod EitherTable
 pub mod CallChecks
 pub mod Outcomes
 pub mod LentKept

@@ -11,26 +11,43 @@ use Rattle.job.proofs.JobChecks.{nothing-shown}
 use Rattle.job.proofs.Wider.{wider-checks, pairs-widened}
 use Rattle.machine.specs.Table.{Lent}
 use Rattle.machine.specs.Operations.{machineCheckBy, startBy, advanceBy}
-use Rattle.forms.specs.Operations.{askCheckBy, askBy, explainCheckBy, explainBy}
+use Rattle.bit_machine.specs.Operations.{bitsCheckBy, startBitsBy, advanceBitsBy}
+use Rattle.forms.specs.Operations.{askCheckBy, askBy, askBitsCheckBy, askBitsBy, explainCheckBy, explainBy}
 use Rattle.verdicts.specs.Operation.{verdictsCheckBy, verdictsBy}
-use Rattle.claims.specs.Call.{Call, start, advance, ask, explain, verdicts, outcomeBy, runBy}
+use Rattle.claims.specs.Call.{Kind, bytes, bits, startOn, advanceOn, askOn, Call, start, advance, ask, explain}
+use Rattle.claims.specs.Call.{verdicts, count, outcomeBy, runBy}
 use Rattle.claims.specs.WiderClasses.{ByCanonicalJob, ByWiderTable, WiderClasses}
 
 module _ (checks others : Checks) (a b : List ℕ) (same : (needed : Bool) → checks needed a ≡ others needed b)
     (jobs : jobOf a ≡ jobOf b) where
-  outcome-same : (m : Lent) (c : Call) → outcomeBy checks a m c ≡ outcomeBy others b m c
-  unfolding outcomeBy startBy advanceBy askBy explainBy verdictsBy machineCheckBy askCheckBy explainCheckBy
-      verdictsCheckBy
-  outcome-same m start = rw (same true, jobs)
-  outcome-same m (advance n) = rw (same true, jobs)
-  outcome-same m (ask form) = rw (same true, jobs)
-  outcome-same m (explain form listing) = rw (same true, jobs)
-  outcome-same m (verdicts codes) = rw (same false, jobs)
+  start-same : (k : Kind) (m : Lent) → startOn k checks a m ≡ startOn k others b m
+  unfolding startBy startBitsBy machineCheckBy bitsCheckBy
+  start-same bytes m = rw (same true, jobs)
+  start-same bits m = rw (same true, jobs)
 
-  run-same : (m : Lent) (cs : List Call) → runBy checks a m cs ≡ runBy others b m cs
+  advance-same : (k : Kind) (m : Lent) (n : ℕ) → advanceOn k checks a m n ≡ advanceOn k others b m n
+  unfolding advanceBy advanceBitsBy machineCheckBy bitsCheckBy
+  advance-same bytes m n = rw (same true, jobs)
+  advance-same bits m n = rw (same true, jobs)
+
+  ask-same : (k : Kind) (table form : List ℕ) → askOn k checks a table form ≡ askOn k others b table form
+  unfolding askBy askBitsBy askCheckBy askBitsCheckBy
+  ask-same bytes table form = rw (same true, jobs)
+  ask-same bits table form = rw (same true, jobs)
+
+  outcome-same : (k : Kind) (m : Lent) (c : Call k) → outcomeBy k checks a m c ≡ outcomeBy k others b m c
+  unfolding outcomeBy explainBy verdictsBy machineCheckBy explainCheckBy verdictsCheckBy
+  outcome-same k m start = rw (start-same k m)
+  outcome-same k m (advance n) = rw (advance-same k m n)
+  outcome-same k m (ask form) = rw (ask-same k (m .table) form)
+  outcome-same bytes m (explain form listing) = rw (same true, jobs)
+  outcome-same bytes m (verdicts codes) = rw (same false, jobs)
+  outcome-same bits m count = refl
+
+  run-same : (k : Kind) (m : Lent) (cs : List (Call k)) → runBy k checks a m cs ≡ runBy k others b m cs
   unfolding runBy
-  run-same m [] = refl
-  run-same m (c ∷ cs) = rw (outcome-same m c, run-same (outcomeBy others b m c .lent) cs)
+  run-same k m [] = refl
+  run-same k m (c ∷ cs) = rw (outcome-same k m c, run-same k (outcomeBy k others b m c .lent) cs)
 
 by-wider-table : ByWiderTable
 by-wider-table narrow wide within job n =

@@ -16,7 +16,8 @@
 // What holds of single operations is carried beside the definitions, in theorems.rt of these crates: of the checks and
 // ranks in job, of steps, counts, reasons and turns in machine, of bits in bit_machine, of acceptance and listings in
 // forms, of codes, empty and growing in verdicts (over the papers' theorems in grammar), of what is written in
-// long_jobs and copies. What holds of whole lists of calls is carried here.
+// long_jobs and copies. What holds of whole lists of calls, on a table of bytes or of bits, is carried here.
+ghost use contract.Monad.{fact};
 ghost use Rattle.claims.specs.BitsAlike.{CallsAlike, RunsAlike};
 ghost use Rattle.claims.specs.Filed.{FiledGrammars};
 ghost use Rattle.claims.specs.FinishedTables.{FinishedTables};
@@ -24,13 +25,15 @@ ghost use Rattle.claims.specs.Turns.{TurnsInRuns};
 ghost use Rattle.claims.specs.TwoRuns.{TwoRuns};
 ghost use Rattle.claims.specs.WiderClasses.{WiderClasses};
 
-// Demand 2: a table finished from a job's start holds the smallest set, and accepts just the forms that derive a
-// string of the automaton.
+// Demand 2: a table of bytes or of bits, finished from a job's start, holds the smallest set, and accepts just the
+// forms that derive a string of the automaton. `⌜ .. ⌝` is for Type 0; `fact` is the same at any level, here at that of
+// statements about all sets.
 pub fn finished_tables()
-    ensures theorem { λ r. ⌜ FinishedTables ⌝ }
+    ensures theorem { λ r. fact 𝓤 FinishedTables }
 {}
 
-// Demand 3: two runs of a list of calls, the records in different orders, are alike, and the counts add up.
+// Demand 3: two runs of a list of calls on bytes or on bits, the records in different orders, are alike, and the
+// counts add up.
 pub fn two_runs()
     ensures theorem { λ r. ⌜ TwoRuns ⌝ }
 {}
@@ -51,7 +54,8 @@ pub fn wider_classes()
     ensures theorem { λ r. ⌜ WiderClasses ⌝ }
 {}
 
-// On a bit table and a byte table that say the same, each call answers the same and leaves such tables.
+// A start on a bit table and on a byte table, whatever they hold, and each call on two that say the same, answers the
+// same and leaves tables that say the same.
 pub fn calls_alike()
     ensures theorem { λ r. ⌜ CallsAlike ⌝ }
 {}

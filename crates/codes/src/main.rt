@@ -4,7 +4,7 @@
 // One byte more than a job may have, so that longer input is refused as too long.
 const INPUT_BYTES: usize = 16385;
 
-// The most bytes that the text of the codes has.
+// The most bytes that the output of the codes has.
 const OUTPUT_BYTES: usize = 448;
 
 // Prints the codes of a job.
@@ -18,6 +18,9 @@ fn codes(job: &[u8]) {
 }
 
 fn main() {
+    if !console::has_no_words(b"usage: ropeclover-codes < JOB; it takes no words\n") {
+        return;
+    }
     let mut buffer = [0u8; INPUT_BYTES];
     let input = console::read_input(&mut buffer);
     if !input.ok {

@@ -1,4 +1,5 @@
-// What the programs share: reading a job from standard input, and writing a text to standard output.
+// What the programs share: their words, reading a job from standard input, and writing to standard output.
+use libc::STDERR_FILENO;
 use libc::STDIN_FILENO;
 use libc::STDOUT_FILENO;
 ghost use mathlib.Core.Path.{_≡_};
@@ -10,6 +11,15 @@ ghost use Rattle.console.specs.Part.{firstBytes};
 pub struct Input {
     pub ok: bool,
     pub len: usize,
+}
+
+// Whether the command line has no words; where it has some, the usage goes to standard error.
+pub fn has_no_words(usage: &[u8]) -> bool {
+    if os::arg_count() < 2 {
+        return true;
+    }
+    io::write_all(STDERR_FILENO, usage);
+    false
 }
 
 // Reads standard input until the buffer is full or the input ends.
@@ -41,10 +51,10 @@ pub fn part(buf: &[u8], n: usize) -> &[u8]
     &buf[0..0]
 }
 
-// Writes the first n bytes of a text to standard output, by one write where all are taken; a failure is named on
+// Writes the first n bytes of an output to standard output, by one write where all are taken; a failure is named on
 // standard error.
-pub fn write_output(text: &[u8], n: usize) {
-    if !io::write_all(STDOUT_FILENO, part(text, n)) {
+pub fn write_output(output: &[u8], n: usize) {
+    if !io::write_all(STDOUT_FILENO, part(output, n)) {
         os::fail(b"standard output");
     }
 }

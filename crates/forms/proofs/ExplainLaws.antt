@@ -57,7 +57,7 @@ module _ (J : Job) (range : InRange J) (initial : J .initial < 32) (form : List 
     unfolding listedFor
     for-within = listed-within (J .rules) (range .rules) (m .reasons) (m .table) _ accepted-route
 
-    for-keeps : KeepsRest m (lentOf (listedFor J m form .table) (m .reasons))
+    for-keeps : KeepsRest tableSize m (lentOf (listedFor J m form .table) (m .reasons))
     unfolding listedFor
     for-keeps =
         record {
@@ -101,9 +101,9 @@ module _ (J : Job) (range : InRange J) (initial : J .initial < 32) (form : List 
       ∙ sym (listed-there (first m) out (sym same ∙ e)))
       (λ e. ap firstOutcome (none-there m out e) ∙ sym (none-there (first m) out (sym same ∙ e)))
 
-  pub explain-keeps : (m : Lent) (out : List ℕ) → KeepsRest m (explainFinished J m form out .lent)
+  pub explain-keeps : (m : Lent) (out : List ℕ) → KeepsRest tableSize m (explainFinished J m form out .lent)
   explain-keeps m out =
-      explain-cases J m form out (λ o. KeepsRest m (o .lent)) (for-keeps m) (for-keeps m)
+      explain-cases J m form out (λ o. KeepsRest tableSize m (o .lent)) (for-keeps m) (for-keeps m)
       (λ e. record { long-table = refl; long-reasons = refl; rest-table = refl; rest-reasons = refl })
 
   pub explain-says :

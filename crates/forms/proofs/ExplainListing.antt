@@ -7,11 +7,12 @@ use Rattle.grammar.specs.Rule.{Rule}
 use Rattle.job.specs.Job.{jobOf}
 use Rattle.machine.specs.Table.{Lent, doneAt}
 use Rattle.machine.specs.Smallest.{DecidesSmallest}
+use Rattle.machine.specs.Theorems.Entries.{AbsentHaveNone}
 use Rattle.machine.proofs.MachineChecks.{Passed}
 use Rattle.job.proofs.AcceptedFacts.{in-range}
 use Rattle.machine.proofs.Starts.StartLaws.{started-length}
 use Rattle.machine.proofs.Reasons.Runs.{run-reasons-fit}
-use Rattle.machine.proofs.Starts.StartCounts.{run-finished-smallest}
+use Rattle.machine.proofs.Starts.StartCounts.{run-long, run-finished-smallest}
 use Rattle.machine.proofs.Steps.StepLaws.{finishes}
 use Rattle.forms.specs.Listing.{Listed, recordsAt}
 use Rattle.forms.specs.Operations.{acceptsOn, explainCheck, finishedFrom, listedFor, explainOf, explainBy}
@@ -19,19 +20,21 @@ use Rattle.forms.specs.Inside.AcceptanceParts.{FormFits}
 use Rattle.forms.specs.Inside.ExplainParts.{Explainable}
 use Rattle.forms.specs.Theorems.ListingTheorems.{RecordsSay}
 use Rattle.forms.specs.Theorems.ExplainTheorems.{Explains}
+use Rattle.forms.proofs.AskAnswers.{initial-state}
 use Rattle.forms.proofs.Passes.{records-length}
 use Rattle.forms.proofs.ListingTheorems.{listing-is-right, records-are-right}
 use Rattle.forms.proofs.Grounding.{true-by-reasons}
 use Rattle.forms.proofs.ExplainChecks.{explain-passed}
 use Rattle.forms.proofs.Explaining.{route-listable}
 use Rattle.forms.proofs.ExplainCases.{accepted-leaves}
+use Rattle.forms.proofs.ExplainLaws.{explain-says, explain-reasons}
 use Rattle.forms.proofs.Unlisted.{run-explainable}
 
 -- the records at the front of the listing buffer
-records-written : (ρs : List Rule) (given : ℕ → ℕ → ℕ → Bool) (reasons places rest : List ℕ) →
-    RecordsSay ρs given reasons places (recordsAt ρs reasons places) →
-    RecordsSay ρs given reasons places (recordsAt ρs reasons places ++ rest)
-records-written ρs given reasons places rest say i h =
+records-written : (ρs : List Rule) (given : ℕ → ℕ → ℕ → Bool) (s : ℕ) (reasons places rest : List ℕ) →
+    RecordsSay ρs given s reasons places (recordsAt ρs reasons places) →
+    RecordsSay ρs given s reasons places (recordsAt ρs reasons places ++ rest)
+records-written ρs given s reasons places rest say i h =
     let bytes : List ℕ = recordsAt ρs reasons places in
     let size : length bytes ≡ 8 * length places = records-length ρs reasons places in
     rw (
@@ -69,9 +72,24 @@ module _ (job : List ℕ) (m : Lent) (form : List ℕ) (unrefused : explainCheck
         reasons = ap (λ n. n .reasons) lent;
         counted = λ e. left e .0;
         records = λ e. rw (left e .1)
-            (records-written _ _ (f .reasons) (l .places) _
+            (records-written _ _ (jobOf job .states) (f .reasons) (l .places) _
             (records-are-right listable
             (true-by-reasons (jobOf job) range f
             (run-reasons-fit (jobOf job) range m (passed .0 .long) (passed .0 .long-reasons) 65536)
             finished-smallest)));
       })
+
+  pub explain-absent-have-none : (out : List ℕ) → AbsentHaveNone (explainOf job m form out .lent)
+  unfolding explainBy
+  explain-absent-have-none out =
+      let f : Lent = finishedFrom (jobOf job) m in
+      let range = in-range (passed .0 .ok) in
+      let initial = initial-state (passed .0 .ok) in
+      let long = run-long (jobOf job) range m (passed .0 .long) 65536 in
+      let reasons = run-reasons-fit (jobOf job) range m (passed .0 .long) (passed .0 .long-reasons) 65536 in
+      rw (
+        eq-eqb _ 0 unrefused,
+        explain-says (jobOf job) range initial form (passed .1 .symbols) f out reasons long,
+        explain-reasons (jobOf job) range initial form (passed .1 .symbols) f out,
+      )
+      (reasons .none)

@@ -2,7 +2,7 @@
 -- made of. Assumes nothing.
 use Rattle.grammar.proofs.Basics.{_≡_, refl, _∙_, ap, ⊎-elim, inl, inr, true, false, List, List·Memᴰ}
 use Rattle.grammar.proofs.Basics.{List·Memᴰ·not-nil, List·Memᴰ·cases-cons, List·Memᴰ·eq-of-singleton, ℕ, _<_, _≤_, _-_}
-use Rattle.grammar.proofs.Basics.{_/_, _%_, arith, leb, getD, eq-eqb, ne-eqb, leb-true, leb-false, cases}
+use Rattle.grammar.proofs.Basics.{_/_, _%_, arith, leb, length, getD, eq-eqb, ne-eqb, leb-true, leb-false, cases}
 use Rattle.grammar.specs.Rule.{Rule, head, empty}
 use Rattle.grammar.specs.Closure.{Closure}
 use Rattle.job.specs.Job.{Job}
@@ -16,7 +16,7 @@ use Rattle.machine.proofs.Tables.Statuses.{done-not-absent}
 use Rattle.machine.proofs.Tables.Places.{place-of-parts, place-below}
 use Rattle.forms.specs.Listing.{reasonAt, reasonRule, rulePremises, premises}
 use Rattle.forms.specs.Grounded.{DonePlace, ReasonFits, Grounded}
-use Rattle.forms.specs.Theorems.ListingTheorems.{TrueReasons}
+use Rattle.forms.specs.Theorems.ListingTheorems.{EmptyStays, TrueReasons}
 use Rattle.forms.proofs.RunLaws.{done-bound}
 
 -- each transition of a terminal in the smallest set is given, as no rule adds one
@@ -52,6 +52,7 @@ module _ (J : Job) (range : InRange J) (m : Lent) (fit : ReasonsFit J (statuses 
         DonePlace (m .table) p → DecidesSmallest J (doneAt (m .table)) → why ≡ givenReason →
         J .given from symbol to ≡ true
     head-is : (why ≡ givenReason → ⊥) → head (reasonRule (J .rules) why) ≡ symbol
+    stays : (why ≡ givenReason → ⊥) → EmptyStays (J .states) p (reasonRule (J .rules) why)
     down : (x : ℕ) → List·Memᴰ x (premises (J .rules) (m .reasons) p) → Below x
 
   -- a given transition has no premises
@@ -63,14 +64,15 @@ module _ (J : Job) (range : InRange J) (m : Lent) (fit : ReasonsFit J (statuses 
         fits = inl e;
         is-given = λ d smallest same. given d smallest;
         head-is = λ other. absurd (other e);
+        stays = λ other. absurd (other e);
         down = λ x i. absurd (List·Memᴰ·not-nil (rw (eq-eqb why givenReason e) at i));
       }
 
   -- by a rule
   rule-leads : (rank middle : ℕ) (ρ : Rule) → why ≡ reasonOf rank middle → middle < 32 → RuleAt (J .rules) rank ρ →
-      head ρ ≡ symbol → (RuleInRange ρ → (x : ℕ) → List·Memᴰ x (rulePremises from middle to ρ) → Below x) → Leads
+      head ρ ≡ symbol → EmptyStays (J .states) p ρ → (RuleInRange ρ → (x : ℕ) → List·Memᴰ x (rulePremises from middle to ρ) → Below x) → Leads
   unfolding premises
-  rule-leads rank middle ρ e small rule h down =
+  rule-leads rank middle ρ e small rule h stays down =
       let other : why ≡ givenReason → ⊥ = λ g. omega (arith, rule .0, range .rule-count) in
       let same : (why - 1) / 32 ≡ rank = omega arith in
       let at-middle : (why - 1) % 32 ≡ middle = omega arith in
@@ -81,6 +83,7 @@ module _ (J : Job) (range : InRange J) (m : Lent) (fit : ReasonsFit J (statuses 
         fits = inr (omega arith, omega (arith, rule .0));
         is-given = λ d smallest g. absurd (other g);
         head-is = λ g. ap head at-rank ∙ h;
+        stays = λ g. rw at-rank stays;
         down = λ x i. down in-range x (rw (ne-eqb why givenReason other, at-middle, at-rank) at i);
       }
 
@@ -99,12 +102,12 @@ module _ (J : Job) (range : InRange J) (m : Lent) (fit : ReasonsFit J (statuses 
   reason-leads : (n : ℕ) → why ≡ n → Reason J (doneAt (m .table)) (turnAt (m .reasons)) from symbol to n → Leads
   reason-leads n at (Reason.by-given g e) = given-leads (at ∙ e) (λ d smallest. g)
   reason-leads n at (Reason.by-empty rank g e rule s l) =
-      rule-leads rank 0 (empty symbol) (at ∙ e) (omega arith) rule refl (λ low x i. absurd (List·Memᴰ·not-nil i))
+      rule-leads rank 0 (empty symbol) (at ∙ e) (omega arith) rule refl (λ none. (s, l)) (λ low x i. absurd (List·Memᴰ·not-nil i))
   reason-leads n at (Reason.by-unit rank X g e rule a) =
-      rule-leads rank 0 _ (at ∙ e) (omega arith) rule refl
+      rule-leads rank 0 _ (at ∙ e) (omega arith) rule refl (λ none. absurd (omega (arith, ap length none)))
       (λ low x i. premise-leads from X to (omega arith) (low .1) (omega arith) a x (List·Memᴰ·eq-of-singleton i))
   reason-leads n at (Reason.by-pair rank X Y middle g e small rule a b) =
-      rule-leads rank middle _ (at ∙ e) small rule refl
+      rule-leads rank middle _ (at ∙ e) small rule refl (λ none. absurd (omega (arith, ap length none)))
       (λ low x i. ⊎-elim (premise-leads from X middle (omega arith) (low .1) small a x)
       (λ k. premise-leads middle Y to small (low .2) (omega arith) b x (List·Memᴰ·eq-of-singleton k))
       (List·Memᴰ·cases-cons i))
@@ -146,9 +149,10 @@ module _ (J : Job) (range : InRange J) (m : Lent) (fit : ReasonsFit J (statuses 
       }
 
   pub true-by-reasons :
-      DecidesSmallest J (doneAt (m .table)) → TrueReasons (J .rules) (J .given) (m .reasons) (m .table)
+      DecidesSmallest J (doneAt (m .table)) → TrueReasons (J .rules) (J .given) (J .states) (m .reasons) (m .table)
   true-by-reasons smallest =
       record {
         is-given = λ p d. leads p d .is-given d smallest;
         head-is = λ p d. leads p d .head-is;
+        stays = λ p d. leads p d .stays;
       }

@@ -24,6 +24,7 @@ pub mod WalkStarts
 pub mod Unmarking
 pub mod ListAll
 pub mod RunOrder
+pub mod ListingOrder
 pub mod ListingTheorems
 pub mod Grounding
 pub mod ExplainChecks

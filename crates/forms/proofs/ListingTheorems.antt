@@ -11,6 +11,7 @@ use Rattle.forms.specs.Listing.{reasonAt, reasonMiddle, premises, reason
 use Rattle.forms.specs.Listing.{depthBound, listAll, unmarked}
 use Rattle.forms.specs.Grounded.{DonePlace}
 use Rattle.forms.specs.Inside.ListingParts.{fresh}
+use Rattle.forms.specs.Theorems.ListingOrder.{ListsInTurn}
 use Rattle.forms.specs.Theorems.ListingTheorems.{Listable, IsListing, RecordSays, RecordsSay, TrueReasons}
 use Rattle.forms.specs.Theorems.ListingTheorems.{DepthBoundNeverMet}
 use Rattle.forms.proofs.ReasonLaws.{rank-below, record-length}
@@ -18,6 +19,7 @@ use Rattle.forms.proofs.Visits.{fuel-enough, bound-enough}
 use Rattle.forms.proofs.Runs.{Run, run-length, visits-run}
 use Rattle.forms.proofs.RunLaws.{run-marks, run-lists-done}
 use Rattle.forms.proofs.RunOrder.{listed-marked, unlisted-kept, places-apart, marked-listed, premises-before}
+use Rattle.forms.proofs.ListingOrder.{listed-rests, visits-in-turn}
 use Rattle.forms.proofs.Unmarking.{unmarked-other, unmarked-three}
 use Rattle.grammar.proofs.NoRepeat.{member-at}
 use Rattle.forms.proofs.Distinct.{distinct-counted}
@@ -38,12 +40,18 @@ module _ {ρs : List Rule} {reasons t ps : List ℕ} (c : Listable ρs reasons t
       distinct-counted _ tableSize _
       (places-apart (listing-run .0)) (λ p m. listed-done p m .within) (λ p m. listed-done p m .is-done)
 
+  in-turn : ListsInTurn (premises ρs reasons) [] ps (listAll ρs reasons t ps .places)
+  unfolding listAll
+  in-turn = visits-in-turn (c .grounded) (c .none-listed) ps (c .done) (Run.nothing (c .long))
+
   pub listing-is-right : IsListing ρs reasons t ps (listAll ρs reasons t ps)
   listing-is-right =
       let (run, all) = listing-run in
       record {
         once = places-apart run;
         premises-first = premises-before (c .none-listed) run;
+        in-turn = in-turn;
+        needed = λ q m. ⊎-elim (λ i. absurd (List·Memᴰ·not-nil i)) (λ r. r) (listed-rests in-turn q m);
         sequence = λ p m. marked-listed (c .none-listed) run p (c .done p m .within) (all p m);
         only-done = listed-done;
         at-most = at-most;
@@ -77,9 +85,9 @@ record-at ρs reasons (p ∷ ps) (suc i) h =
     (record-at ρs reasons ps i (omega arith))
 
 -- a record says that its transition is given, or by which rule it is there
-module _ {ρs : List Rule} {given : ℕ → ℕ → ℕ → Bool} {reasons t ps : List ℕ} (c : Listable ρs reasons t ps)
-    (true-reasons : TrueReasons ρs given reasons t) where
-  record-says : (p : ℕ) → DonePlace t p → RecordSays ρs given p (listingRecord ρs reasons p) (premises ρs reasons p)
+module _ {ρs : List Rule} {given : ℕ → ℕ → ℕ → Bool} {s : ℕ} {reasons t ps : List ℕ} (c : Listable ρs reasons t ps)
+    (true-reasons : TrueReasons ρs given s reasons t) where
+  record-says : (p : ℕ) → DonePlace t p → RecordSays ρs given s p (listingRecord ρs reasons p) (premises ρs reasons p)
   unfolding listingRecord reasonBytes premises
   record-says p d =
       cases
@@ -92,9 +100,9 @@ module _ {ρs : List Rule} {given : ℕ → ℕ → ℕ → Bool} {reasons t ps 
       rw e
       (RecordSays.says-rule _ (reasonMiddle (reasonAt reasons p))
       (rank-below ρs _ (c .grounded .reason p d) other .1) (omega arith)
-      (true-reasons .head-is p d other) refl refl))
+      (true-reasons .head-is p d other) (true-reasons .stays p d other) refl refl))
 
-  pub records-are-right : RecordsSay ρs given reasons (listAll ρs reasons t ps .places)
+  pub records-are-right : RecordsSay ρs given s reasons (listAll ρs reasons t ps .places)
       (recordsAt ρs reasons (listAll ρs reasons t ps .places))
   records-are-right i h =
       let places : List ℕ = listAll ρs reasons t ps .places in

@@ -1,3 +1,4 @@
 pub mod AcceptanceTheorems
+pub mod ListingOrder
 pub mod ListingTheorems
 pub mod ExplainTheorems

@@ -33,3 +33,4 @@ pub mod Trees
 pub mod Slim
 pub mod Words
 pub mod Growth
+pub mod Carried

@@ -8,6 +8,7 @@ pub mod Sound
 pub mod Accepted
 pub mod SortedRules
 pub mod Ranks
+pub mod RankOrder
 pub mod States
 pub mod OrderFree
 pub mod AcceptedFacts

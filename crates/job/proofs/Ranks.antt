@@ -73,7 +73,7 @@ sorted-rising (r ∷ rs) s d =
     (λ t. rw t rest)
 
 -- an earlier place has the smaller key
-rising-places : (d : JobRecord) (l : List JobRecord) → Rising l → (i j : ℕ) → i < j → j < length l
+pub rising-places : (d : JobRecord) (l : List JobRecord) → Rising l → (i j : ℕ) → i < j → j < length l
     → sortKey (getD l i d) < sortKey (getD l j d)
 unfolding Rising
 rising-places d [] h i j p q = omega arith

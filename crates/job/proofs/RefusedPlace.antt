@@ -1,14 +1,14 @@
 -- A refusal by 3 to 7 names a record: its place is below the number of records. Assumes nothing.
 use Rattle.grammar.proofs.Basics.{true, false, Bool, _&&_, cond, not, List, _∷_, [], _++_, ℕ, _<_, _≤_, _+_, _*_, _%_}
 use Rattle.grammar.proofs.Basics.{arith, eqb, ltb, leb, length, length-append, eqb-true, leb-true, cases, and-left}
-use Rattle.grammar.proofs.Basics.{and-right}
+use Rattle.grammar.proofs.Basics.{_≡_, and-right, drop, length-drop, length-take-le}
 use Rattle.job.specs.declared.JobRecord.{JobRecord}
 use Rattle.job.specs.declared.Limits.{Limits}
 use Rattle.job.specs.declared.Checked.{Checked}
 use Rattle.job.specs.Format.{fieldClasses, recordsOf, byteI, byteS}
 use Rattle.job.specs.Records.{firstFault, lengthCheck, bytesCheck}
 use Rattle.job.specs.Check.{countKind, fault, recordPlace, jobFormat, missing, checkOf, fullLimits, jobCheck}
-use Rattle.job.specs.Show.{partOf, shownPart}
+use Rattle.job.specs.Show.{partOf, shownPart, shownOf}
 use Rattle.job.proofs.Records.{records-counted}
 use Rattle.job.proofs.RecordChecks.{length-passed}
 
@@ -73,3 +73,10 @@ part-within job =
     cases (leb 3 n && leb n 7)
     (λ t. rw t (search (record-within fullLimits false job, and-left, and-right, leb-true)))
     (λ t. rw t (omega arith))
+
+-- and what is shown is as long as the part
+pub shown-long : (job : List ℕ) → length (shownOf job) ≡ shownPart job .length
+unfolding shownOf
+shown-long job =
+    length-take-le (shownPart job .length) (drop (shownPart job .offset) job)
+    (omega (arith, part-within job, length-drop (shownPart job .offset) job))

@@ -2,7 +2,7 @@
 // mean. Each theorem is carried by a function.
 ghost use Rattle.job.specs.Theorems.InRange.{CheckAccepts, AcceptedInRange};
 ghost use Rattle.job.specs.Theorems.OrderFree.{AcceptedAlike, SameJob, SameRules};
-ghost use Rattle.job.specs.Theorems.RankCounts.{RankCounts};
+ghost use Rattle.job.specs.Theorems.RankCounts.{RankCounts, KeysInOrder, RanksInOrder};
 ghost use Rattle.job.specs.Theorems.StateCount.{StateCount};
 ghost use Rattle.job.specs.Theorems.WiderClasses.{PairsWidened, WiderChecks};
 
@@ -34,6 +34,12 @@ pub fn same_rules()
 // A rule's rank is the number of rules that sort before it.
 pub fn rank_counts()
     ensures theorem { λ r. ⌜ RankCounts ⌝ }
+{}
+
+// The sort key orders by field 1, kind byte, field 2 and field 3, and so do the ranks.
+pub fn ranks_in_order()
+    ensures keys { λ r. ⌜ KeysInOrder ⌝ }
+    ensures ranks { λ r. ⌜ RanksInOrder ⌝ }
 {}
 
 // The number of states is the least that is above each state that a T, I or F record names.

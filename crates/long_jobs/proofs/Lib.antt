@@ -1,5 +1,6 @@
 pub mod LongRecords
 pub mod Remaining
+pub mod AllBelow
 pub mod Formed
 pub mod FirstWalk
 pub mod FirstWalkSteps

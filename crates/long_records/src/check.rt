@@ -36,7 +36,7 @@ fn is_misfit(bytes: &[u8]) -> bool
         if !grammar::is_variable(bytes[1]) {
             return true;
         }
-        return !dialect::all_below(dialect::body(bytes), 64);
+        return !dialect::all_symbols(dialect::body(bytes));
     }
     records::format::bad_field(dialect::short_record(bytes)) != 0
 }

@@ -85,3 +85,17 @@ pub fn all_below(bytes: &[u8], bound: u8) -> bool
     }
     true
 }
+
+// Whether each byte is a symbol.
+pub fn all_symbols(bytes: &[u8]) -> bool
+    ensures says { λ ok. ⌜ ok ≡ allBelow 64 (now (bytes .entry)) ⌝ }
+{
+    let mut i = 0;
+    while i < bytes.len() {
+        if !grammar::is_symbol(bytes[i]) {
+            return false;
+        }
+        i += 1;
+    }
+    true
+}

@@ -24,11 +24,11 @@ tableSize = 65536
 abbrev pub reasonsSize : ℕ
 reasonsSize = 32768
 
--- the same lengths, and what is lent past those sizes as it was
-pub record KeepsRest (before after : Lent) : Type 0 where
+-- the same lengths, and what is lent past a table of that size and past the reasons as it was
+pub record KeepsRest (size : ℕ) (before after : Lent) : Type 0 where
   pub long-table : length (after .table) ≡ length (before .table)
   pub long-reasons : length (after .reasons) ≡ length (before .reasons)
-  pub rest-table : drop tableSize (after .table) ≡ drop tableSize (before .table)
+  pub rest-table : drop size (after .table) ≡ drop size (before .table)
   pub rest-reasons : drop reasonsSize (after .reasons) ≡ drop reasonsSize (before .reasons)
 
 -- the place of the transition (q, X, r) in a table, and the three parts of a place

@@ -5,3 +5,5 @@ pub mod Bytes
 pub mod Runs
 pub mod Reasons
 pub mod Turns
+pub mod Offered
+pub mod Entries

@@ -1,4 +1,4 @@
--- What an operation answers by the bytes that its text needs. Assumes nothing.
+-- What an operation answers by the bytes that its output needs. Assumes nothing.
 use mathlib.Core.Path.{_≡_, refl, ap, _∙_}
 use mathlib.Core.List.{List, [], _∷_, _++_}
 use Prim.Native.Nat.{ℕ, _≤_, _<_}
@@ -16,7 +16,7 @@ gone : (front out : List ℕ) → length front ≡ 0 → front ++ out ≡ out
 gone [] out e = refl
 gone (b ∷ front) out e = absurd (omega arith)
 
--- A text is counted in the front of a buffer, which has no bytes.
+-- An output is counted in the front of a buffer, which has no bytes.
 module _ {text : List ℕ} {m : ℕ} {before : List ℕ} {needed : ℕ} {front : List ℕ}
     (a : Placed text m 0 before needed front) (none : length front ≡ 0) where
   needs-all : needed ≡ length text

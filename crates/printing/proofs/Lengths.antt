@@ -1,4 +1,4 @@
--- How long a text can be: as its lines together. Assumes nothing.
+-- How long an output can be: as its lines together. Assumes nothing.
 use Prim.Native.Nat.{_+_, _*_, _/_, min}
 use native.Mathlib.Omega.{arith}
 use lib.Dec.{eqb}

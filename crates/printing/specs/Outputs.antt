@@ -1,4 +1,4 @@
--- The whole text that each program prints, for every input. Assumes nothing.
+-- The whole output that each program prints, for every input. Assumes nothing.
 use Prim.Native.Nat.{ℕ, _/_, min}
 use mathlib.Core.Bool.{Bool, cond}
 use mathlib.Core.List.{List, _++_}

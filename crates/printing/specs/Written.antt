@@ -1,4 +1,4 @@
--- The whole outcome of writing a text into a lent buffer. Assumes nothing.
+-- The whole outcome of writing an output into a lent buffer. Assumes nothing.
 use Prim.Native.Nat.{ℕ}
 use mathlib.Core.Bool.{cond}
 use mathlib.Core.List.{List, _++_}
@@ -11,8 +11,8 @@ pub record WrittenOutcome : Type 0 where
   pub answer : Written
   pub out : List ℕ
 
--- Refused calls: a text that does not fit is refused by 13 with the bytes that it needs as the place, and the buffer
--- stays as it was. Else the text is at the front of the buffer, and the bytes after it are as they were
+-- Refused calls: an output that does not fit is refused by 13 with the bytes that it needs as the place, and the buffer
+-- stays as it was. Else the output is at the front of the buffer, and the bytes after it are as they were
 unfoldable pub writtenOf : List ℕ → List ℕ → WrittenOutcome
 writtenOf text out =
     cond

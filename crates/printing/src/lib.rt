@@ -15,7 +15,7 @@ pub struct Report {
     pub growing: bool,
 }
 
-// What writing a text answers: a refusal's number and place, 0 and 0 where nothing is refused, and the bytes written.
+// What writing an output answers: a refusal's number and place, 0 and 0 where nothing is refused, and the bytes written.
 pub struct Written {
     pub number: usize,
     pub place: usize,

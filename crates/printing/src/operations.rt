@@ -1,4 +1,4 @@
-// The outputs of the programs, written into a lent buffer, for every input. A text is counted first, in a part of the
+// The outputs of the programs, written into a lent buffer, for every input. An output is counted first, in a part of the
 // buffer that has no bytes, so that a buffer that is too short for it is left as it was.
 use crate::Report;
 use crate::Written;
@@ -18,7 +18,7 @@ fn too_short(needed: usize) -> Written
     }
 }
 
-// Writes the report's text.
+// Writes the report's output.
 pub fn report_output(report: Report, out: &mut [u8]) -> Written
     ensures written { λ r. ⌜ record { answer = r; out = now (out .exit) }
         ≡ writtenOf (reportOutput report) (now (out .entry)) ⌝ }
@@ -34,7 +34,7 @@ pub fn report_output(report: Report, out: &mut [u8]) -> Written
     }
 }
 
-// Writes the text of the codes.
+// Writes the output of the codes.
 pub fn codes_output(number: usize, place: usize, codes: &[u8], out: &mut [u8]) -> Written
     ensures written { λ r. ⌜ record { answer = r; out = now (out .exit) }
         ≡ writtenOf (codesOutput number place (now (codes .entry))) (now (out .entry)) ⌝ }
@@ -50,7 +50,7 @@ pub fn codes_output(number: usize, place: usize, codes: &[u8], out: &mut [u8]) -
     }
 }
 
-// Writes the text of an explanation.
+// Writes the output of an explanation.
 pub fn explain_output(
     number: usize,
     place: usize,

@@ -1,4 +1,4 @@
-// Whole outputs, each written from the front of the buffer on. Each function returns how many bytes its text has,
+// Whole outputs, each written from the front of the buffer on. Each function returns how many bytes its output has,
 // whether there was room for all of them or not.
 use crate::Report;
 use spelling::lines;
@@ -37,7 +37,7 @@ fn report_answers(out: &mut [u8], at: usize, start: bool, empty: bool, growing: 
     lines::answer_line(out, next, b"growing", growing)
 }
 
-// The report's text.
+// The report's output.
 pub fn report_lines(out: &mut [u8], report: Report) -> usize
     ensures placed { λ r. ⌜ Placed (reportOutput report) 117 0 (now (out .entry)) r (now (out .exit)) ⌝ }
 {
@@ -73,7 +73,7 @@ fn code_lines(out: &mut [u8], codes: &[u8], n: usize) -> usize
     next
 }
 
-// The text of the codes.
+// The output of the codes.
 pub fn codes_lines(out: &mut [u8], number: usize, place: usize, codes: &[u8]) -> usize
     ensures placed { λ r. ⌜ Placed (codesOutput number place (now (codes .entry))) 2688 0
         (now (out .entry)) r (now (out .exit)) ⌝ }
@@ -106,7 +106,7 @@ fn shown_records(records: usize, listing: &[u8]) -> usize
     least(least(records, MOST_RECORDS), listing.len() / 8)
 }
 
-// The text of an explanation.
+// The output of an explanation.
 pub fn explain_lines(
     out: &mut [u8],
     number: usize,

@@ -7,7 +7,7 @@ pub fn as_printed()
     ensures theorem { λ _. ⌜ AsPrinted ⌝ }
 {}
 
-// How long a text can be.
+// How long an output can be.
 pub fn outputs_fit()
     ensures theorem { λ _. ⌜ OutputsFit ⌝ }
 {}

@@ -4,7 +4,7 @@
 // One byte more than a job may have, so that longer input is refused as too long.
 const INPUT_BYTES: usize = 16385;
 
-// The most bytes that a report's text has.
+// The most bytes that a report's output has.
 const OUTPUT_BYTES: usize = 117;
 
 // Prints the report on a job.
@@ -19,6 +19,9 @@ fn report(job: &[u8]) {
 }
 
 fn main() {
+    if !console::has_no_words(b"usage: ropeclover-report < JOB; it takes no words\n") {
+        return;
+    }
     let mut buffer = [0u8; INPUT_BYTES];
     let input = console::read_input(&mut buffer);
     if !input.ok {

@@ -10,7 +10,7 @@ use transitions::MOST_STEPS;
 ghost use mathlib.Core.Path.{_≡_};
 ghost use mathlib.Core.Bool.{false};
 ghost use Rattle.machine.specs.Table.{lentOf};
-ghost use Rattle.reporting.specs.Operation.{reportCheck, refusedReport, reportLeaves, reportOf};
+ghost use Rattle.reports.specs.Operation.{reportCheck, refusedReport, reportLeaves, reportOf};
 
 // The checks of the report: short buffers, then the job's.
 fn report_check(job: &[u8], table: &[u8], reasons: &[u32], codes: &[u8]) -> Checked

@@ -179,12 +179,14 @@ pub extern "C" fn ropeclover_verdicts(
     );
 }
 
+// Where the part that showing returns stands in the job, and how long it is.
 #[no_mangle]
 pub extern "C" fn ropeclover_show(job: &[u8], answer: &mut [u64; 2])
     ensures answered { λ _. ⌜ now (answer .exit) ≡ showNumbers (shownPart (now (job .entry))) ⌝ }
 {
+    let shown = operations::show_refused(job);
     let part = checks::show::shown_part(job);
-    write2(answer, part.offset as u64, part.length as u64);
+    write2(answer, part.offset as u64, shown.len() as u64);
 }
 
 #[no_mangle]

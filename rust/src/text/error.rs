@@ -29,13 +29,18 @@ pub struct Span {
 #[derive(Clone, Debug, PartialEq, Eq)]
 #[non_exhaustive]
 pub enum Problem {
-    /// A line begins with a word that is no kind, `name` or `state`.
+    /// A line begins with a word that is no kind, `name`, `state` or `form`.
     NoKind(String),
-    /// A record has more than three fields.
-    TooManyFields(usize),
+    /// A record has fewer or more fields than its kind uses, or a letter that is no kind has more than three.
+    FieldNumber {
+        /// The letter.
+        kind: u8,
+        /// How many fields it has.
+        fields: usize,
+    },
     /// The body of an L record has more than eight symbols.
     BodyTooLong(usize),
-    /// A field is no number from 0 to 255 and no name of its class.
+    /// A field is no number of one byte and no name of its class.
     NoField(String, Option<Class>),
     /// A string does not end on its line.
     OpenString,
@@ -47,6 +52,10 @@ pub enum Problem {
     NoSymbol,
     /// The number in a `state` line is no state.
     NoState,
+    /// A form line has no word after its first.
+    FormWords,
+    /// A word of a form line is no symbol.
+    NoForm(UnknownSymbol),
     /// The number has a name already.
     NamedAlready(Span),
     /// The name stands for another number already.
@@ -57,13 +66,15 @@ impl fmt::Display for Problem {
     fn fmt(&self, f: &mut fmt::Formatter<'_>) -> fmt::Result {
         match self {
             Problem::NoKind(word) => {
-                write!(f, "'{}' is no kind of record (one letter), nor 'name' or 'state'", plain(word))
+                write!(f, "'{}' is no kind of record (one letter), nor 'name', 'state' or 'form'", plain(word))
             }
-            Problem::TooManyFields(fields) => write!(f, "a record has at most three fields, not {fields}"),
+            Problem::FieldNumber { kind, fields } => field_number(f, *kind, *fields),
             Problem::BodyTooLong(symbols) => write!(f, "a body has at most eight symbols, not {symbols}"),
             Problem::NoField(word, class) => no_field(f, word, *class),
             Problem::OpenString => write!(f, "this string has no closing quote on its line"),
-            Problem::NameWords(words) => write!(f, "a number and a name are due here, not {words} words"),
+            Problem::NameWords(words) => {
+                write!(f, "a number and a name are due here, not {words} word{}", if *words == 1 { "" } else { "s" })
+            }
             Problem::NoName(word) => write!(
                 f,
                 "'{}' is no name: a letter and then letters, digits, '_', '-' and '.', or a string in quotes, at most {NAME_CHARACTERS} characters",
@@ -71,29 +82,46 @@ impl fmt::Display for Problem {
             ),
             Problem::NoSymbol => write!(f, "a symbol is a number from 0 to 63"),
             Problem::NoState => write!(f, "a state is a number from 0 to 31"),
+            Problem::FormWords => write!(f, "a form is due here; \"\" is the empty one"),
+            Problem::NoForm(unknown) => unknown.fmt(f),
             Problem::NamedAlready(earlier) => write!(f, "this number has a name already, from line {}", earlier.line),
             Problem::NameTaken(earlier) => write!(f, "this name is taken already, in line {}", earlier.line),
         }
     }
 }
 
+fn field_number(f: &mut fmt::Formatter<'_>, kind: u8, fields: usize) -> fmt::Result {
+    let due = match kind {
+        b'E' | b'S' => "1 field, a variable",
+        b'I' | b'F' => "1 field, a state",
+        b'U' => "2 fields, a variable and a symbol",
+        b'P' => "3 fields, a variable and two symbols",
+        b'T' => "3 fields, a state, a symbol and a state",
+        b'L' => "1 to 9 fields, a variable and up to eight symbols",
+        _ => return write!(f, "a record has at most 3 fields, not {fields}"),
+    };
+    let article = if b"UPT".contains(&kind) { "a" } else { "an" };
+    write!(f, "{article} {} record has {due}, not {fields}", char::from(kind))
+}
+
 fn no_field(f: &mut fmt::Formatter<'_>, word: &str, class: Option<Class>) -> fmt::Result {
-    write!(f, "'{}' is no number from 0 to 255", plain(word))?;
-    match class {
-        Some(Class::Variable | Class::Symbol) => write!(f, ", and no symbol has this name"),
-        Some(Class::State) => write!(f, ", and no state has this name"),
-        Some(Class::Unused) | None => Ok(()),
-    }
+    let (what, numbers) = match class {
+        Some(Class::Variable) => ("variable", "0 to 31"),
+        Some(Class::Symbol) => ("symbol", "0 to 63"),
+        Some(Class::State) => ("state", "0 to 31"),
+        Some(Class::Unused) | None => return write!(f, "'{}' is no number from 0 to 255", plain(word)),
+    };
+    write!(f, "'{}' is no {what}: neither the name of one nor a number from {numbers}", plain(word))
 }
 
 /// A part of a text that is no part of the format.
 ///
 /// ```
 /// use ropeclover::text::read;
-/// let errors = read("name 0 a\nname 1 a\nU a\nP 1 2 3 4\n").unwrap_err();
+/// let errors = read("name 0 a\nname 1 a\nE a\nP a 2\n").unwrap_err();
 /// let messages: Vec<String> = errors.iter().map(|error| error.to_string()).collect();
 /// assert_eq!(messages[0], "line 2: this name is taken already, in line 1");
-/// assert_eq!(messages[1], "line 4: a record has at most three fields, not 4");
+/// assert_eq!(messages[1], "line 4: a P record has 3 fields, a variable and two symbols, not 2");
 /// ```
 #[derive(Clone, Debug, PartialEq, Eq)]
 pub struct TextError {
@@ -111,18 +139,38 @@ impl fmt::Display for TextError {
 
 impl std::error::Error for TextError {}
 
-/// A word of a form that is no symbol.
+/// A word or a character of a form that is no symbol.
 ///
 /// ```
 /// use ropeclover::text::{Names, UnknownSymbol};
-/// assert_eq!(Names::default().form("1 x"), Err(UnknownSymbol("x".into())));
+/// assert_eq!(Names::default().form("#1 tone"), Err(UnknownSymbol::Word("tone".into())));
+/// assert_eq!(Names::default().form("\"x\""), Err(UnknownSymbol::Character('x')));
 /// ```
 #[derive(Clone, Debug, PartialEq, Eq)]
-pub struct UnknownSymbol(pub String);
+#[non_exhaustive]
+pub enum UnknownSymbol {
+    /// A word that is no name and no number, or a string that does not end.
+    Word(String),
+    /// A character that no name is, and no name's ranges hold.
+    Character(char),
+    /// A character that the ranges of two names hold.
+    Several(char, String, String),
+}
 
 impl fmt::Display for UnknownSymbol {
     fn fmt(&self, f: &mut fmt::Formatter<'_>) -> fmt::Result {
-        write!(f, "'{}' is no symbol: neither a number from 0 to 255 nor a name", plain(&self.0))
+        match self {
+            UnknownSymbol::Word(word) => {
+                write!(f, "'{}' is no symbol: neither a name nor a number from 0 to 63", plain(word))
+            }
+            UnknownSymbol::Character(character) => {
+                let character = plain(&character.to_string());
+                write!(f, "'{character}' is no symbol: no character is named so, and no range holds it")
+            }
+            UnknownSymbol::Several(character, one, other) => {
+                write!(f, "'{character}' may be {one} or {other}, which both hold it")
+            }
+        }
     }
 }
 

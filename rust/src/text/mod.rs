@@ -5,7 +5,7 @@
 //! name 0 command          # symbol 0 may be written as command
 //! name 32 "F"             # symbol 32 as "F", quotes included
 //! state 1 tuned           # state 1 as tuned
-//! S command               # fields left out are 0
+//! S command
 //! U command "F"
 //! I 0
 //! F tuned
@@ -16,8 +16,14 @@
 //! or a string in double quotes, in which `\"` and `\\` stand for a quote and a backslash. Name lines may stand anywhere. Symbols and states
 //! have names apart, and a record's field takes the names of its class.
 //!
+//! A record has the fields that its kind uses: one of E, I, F and S, two of U, three of P and T. The zeros of a job's record behind them may be written
+//! out, as in `S 0 0 0`.
+//!
 //! A line `L HEAD SYMBOL ...` is a rule with a body of up to eight symbols. A text with one spells a [long job](crate::long).
+//!
+//! A line `form SYMBOL ...` asks about a form, spelled as [`Names::form`] reads it. In it a `#` before a digit starts no comment.
 mod error;
+mod forms;
 mod names;
 mod parse;
 mod print;
@@ -25,7 +31,7 @@ mod words;
 
 pub use error::{Problem, Span, TextError, UnknownSymbol};
 pub use names::Names;
-pub use parse::{read, RecordPlace, Text};
+pub use parse::{names, read, FormLine, RecordPlace, Text};
 pub use print::{disassemble, long_spelling, print, spelling};
 pub use words::plain;
 
@@ -35,7 +41,7 @@ pub use words::plain;
 /// use ropeclover::text::assemble;
 /// assert_eq!(assemble("S 0\nP 0 1 1 # a rule\n").unwrap(), b"S\0\0\0P\0\x01\x01");
 /// assert_eq!(assemble("L 0 32 1 33\n").unwrap(), b"L\0\x03\x20\x01\x21\0\0\0\0\0\0");
-/// assert_eq!(assemble("S 0\nP 0 1 x\n").unwrap_err().to_string(), "line 2: 'x' is no number from 0 to 255, and no symbol has this name");
+/// assert_eq!(assemble("S 0\nP 0 1 x\n").unwrap_err().to_string(), "line 2: 'x' is no symbol: neither the name of one nor a number from 0 to 63");
 /// ```
 ///
 /// # Errors

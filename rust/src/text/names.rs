@@ -1,7 +1,7 @@
 //! Names of symbols and states.
-use super::error::UnknownSymbol;
-use super::words::form_words;
+use super::words::is_name;
 use crate::format::Class;
+use crate::long::Tail;
 use std::borrow::Cow;
 
 /// The names that a text gives to symbols and states, spelled as in the text.
@@ -29,6 +29,13 @@ fn name(names: &[(u8, String)], number: u8) -> Option<&str> {
 
 fn spelled(names: &[(u8, String)], number: u8) -> Cow<'_, str> {
     name(names, number).map_or_else(|| Cow::Owned(number.to_string()), Cow::Borrowed)
+}
+
+/// The name of a tail, by its head's. What stands behind a name in quotes stands before the closing one.
+fn tail_name(head: &str, tail: &Tail) -> String {
+    let (head, quote) = head.strip_suffix('"').map_or((head, ""), |open| (open, "\""));
+    let rule = if tail.rule > 1 { format!(".{}", tail.rule) } else { String::new() };
+    format!("{head}{rule}.{}{quote}", tail.from)
 }
 
 impl Names {
@@ -89,12 +96,38 @@ impl Names {
         }
     }
 
+    /// The symbols that have names, in the order of the text.
+    pub(crate) fn named_symbols(&self) -> impl Iterator<Item = (u8, &str)> {
+        self.symbols.iter().map(|(symbol, name)| (*symbol, name.as_str()))
+    }
+
     pub(crate) fn name_symbol(&mut self, symbol: u8, name: &str) {
         self.symbols.push((symbol, name.into()));
     }
 
     pub(crate) fn name_state(&mut self, state: u8, name: &str) {
         self.states.push((state, name.into()));
+    }
+
+    /// Names the variables that were taken for long rules by what they stand for: `memory.3` is the end of memory's body from its third symbol on,
+    /// `memory.2.3` that of memory's second long rule. The names that a text gave to them are taken away. A variable has no name where the head has
+    /// none, or the name is taken.
+    ///
+    /// ```
+    /// use ropeclover::{long, text};
+    /// let read = text::read("name 0 memory\nname 2 old\nS memory\nL memory 32 1 33 1\nU 1 34\nI 0\n").unwrap();
+    /// let mut names = read.names;
+    /// names.name_tails(&long::tails(&read.job, &long::binarized(&read.job).unwrap()));
+    /// assert_eq!((names.symbol(2), names.symbol(3)), ("memory.2".into(), "memory.3".into()));
+    /// ```
+    pub fn name_tails(&mut self, tails: &[Tail]) {
+        self.forget_symbols(&tails.iter().map(|tail| tail.variable).collect::<Vec<u8>>());
+        for tail in tails {
+            let name = self.symbol_name(tail.head).map(|head| tail_name(head, tail));
+            if let Some(name) = name.filter(|name| is_name(name) && self.find_symbol(name).is_none()) {
+                self.name_symbol(tail.variable, &name);
+            }
+        }
     }
 
     /// Takes away the names of some symbols.
@@ -106,36 +139,6 @@ impl Names {
     /// ```
     pub fn forget_symbols(&mut self, symbols: &[u8]) {
         self.symbols.retain(|(symbol, _)| !symbols.contains(symbol));
-    }
-
-    /// The form that words spell, as the command takes it: numbers, names, and strings. A string that is no name itself stands for its
-    /// characters, each the name of a symbol in quotes, so the empty string for no symbol. A word that is no name may be one in quotes, as a
-    /// shell takes quotes away.
-    ///
-    /// ```
-    /// let names = ropeclover::text::read("name 3 memory\nname 34 \"M\"\nname 33 \"T\"\n").unwrap().names;
-    /// assert_eq!(names.form("memory \"MT\" 35 M").unwrap(), [3, 34, 33, 35, 34]);
-    /// assert_eq!(names.form("memory tone").unwrap_err().to_string(), "'tone' is no symbol: neither a number from 0 to 255 nor a name");
-    /// ```
-    ///
-    /// # Errors
-    /// The first word that is no symbol.
-    pub fn form(&self, text: &str) -> Result<Vec<u8>, UnknownSymbol> {
-        let words = form_words(text).map_err(|start| UnknownSymbol(text[start..].into()))?;
-        let mut form = Vec::new();
-        for word in words {
-            form.extend(self.spelled_symbols(word.text).ok_or_else(|| UnknownSymbol(word.text.into()))?);
-        }
-        Ok(form)
-    }
-
-    fn spelled_symbols(&self, word: &str) -> Option<Vec<u8>> {
-        let quoted = || self.find_symbol(&format!("\"{word}\""));
-        if let Some(symbol) = number(word).or_else(|| self.find_symbol(word)).or_else(quoted) {
-            return Some(vec![symbol]);
-        }
-        let inner = word.strip_prefix('"')?.strip_suffix('"')?;
-        inner.chars().map(|c| self.find_symbol(&format!("\"{c}\""))).collect()
     }
 }
 

@@ -2,9 +2,10 @@
 use super::error::{Problem, Span, TextError};
 use super::names::{number, Names};
 use super::words::{is_name, words, Word};
-use crate::format::Class;
+use crate::format::{self, Class};
 use crate::long::{self, LongRecord};
 use crate::{BODY_SYMBOLS, LONG_RECORD_BYTES};
+use std::collections::BTreeSet;
 
 /// Where a record stands in its text.
 ///
@@ -19,6 +20,23 @@ pub struct RecordPlace {
     pub line: usize,
     /// The kind and the fields that are written out, in order.
     pub words: Vec<Span>,
+}
+
+/// A form that a text asks about.
+///
+/// ```
+/// let text = ropeclover::text::read("name 3 memory\nform memory #35 # a stored channel\n").unwrap();
+/// assert_eq!((text.forms[0].line, text.forms[0].text.as_str()), (2, "memory #35"));
+/// assert_eq!(text.forms[0].symbols, [3, 35]);
+/// ```
+#[derive(Clone, Debug, PartialEq, Eq)]
+pub struct FormLine {
+    /// The line, from 1.
+    pub line: usize,
+    /// Its words as they are written, without the first.
+    pub text: String,
+    /// The symbols that they spell.
+    pub symbols: Vec<u8>,
 }
 
 /// A text that was read.
@@ -39,6 +57,41 @@ pub struct Text {
     pub names: Names,
     /// Where each record of the job stands.
     pub records: Vec<RecordPlace>,
+    /// The forms that it asks about, in order.
+    pub forms: Vec<FormLine>,
+}
+
+/// The numbers that the records of a job, of this many bytes each, have in fields of these classes.
+fn used(job: &[u8], size: usize, classes: &[Class]) -> BTreeSet<u8> {
+    let padded = |bytes: &[u8]| {
+        let mut record = [0; LONG_RECORD_BYTES];
+        record[..size].copy_from_slice(bytes);
+        record
+    };
+    let records = job.chunks_exact(size).map(padded);
+    let numbers = |record: LongRecord| {
+        let is_used = move |field| long::class(record[0], field).is_some_and(|class| classes.contains(&class));
+        (1..).zip(long::fields(&record)).filter(move |(field, _)| is_used(*field)).map(|(_, byte)| byte)
+    };
+    records.flat_map(numbers).collect()
+}
+
+impl Text {
+    /// The names that no record uses, by itself or by its number: of symbols, then of states.
+    ///
+    /// ```
+    /// let text = ropeclover::text::read("name 0 go\nname 1 old\nstate 0 begin\nS 0\nE go\n").unwrap();
+    /// assert_eq!(text.unused_names(), ["old", "begin"]);
+    /// ```
+    pub fn unused_names(&self) -> Vec<&str> {
+        let size = if self.is_long { LONG_RECORD_BYTES } else { 4 };
+        let symbols = used(&self.job, size, &[Class::Variable, Class::Symbol]);
+        let states = used(&self.job, size, &[Class::State]);
+        let symbols =
+            (0..64).filter(|symbol| !symbols.contains(symbol)).filter_map(|symbol| self.names.symbol_name(symbol));
+        let states = (0..32).filter(|state| !states.contains(state)).filter_map(|state| self.names.state_name(state));
+        symbols.chain(states).collect()
+    }
 }
 
 /// A line's words with its number.
@@ -111,8 +164,17 @@ fn take_name(
     Ok(())
 }
 
+/// The names that a text gives, whatever else is wrong with it.
+///
+/// ```
+/// assert_eq!(ropeclover::text::names("name 3 memory\nS memry\n").symbol(3), "memory");
+/// ```
+pub fn names(text: &str) -> Names {
+    named(&lines(text).0, &mut Vec::new())
+}
+
 /// The names of all name lines.
-fn names(lines: &[Line<'_>], errors: &mut Vec<TextError>) -> Names {
+fn named(lines: &[Line<'_>], errors: &mut Vec<TextError>) -> Names {
     let mut named = Named::default();
     for line in lines {
         let taken = match line.words[0].text {
@@ -133,13 +195,27 @@ fn field(word: &str, class: Option<Class>, names: &Names) -> Option<u8> {
     number(word).or_else(|| names.find(word, class?))
 }
 
-/// An error where a record has more fields than its kind may have.
-fn check_number(line: &Line<'_>, kind: u8, fields: &[Word<'_>]) -> Result<(), TextError> {
-    let (most, problem) = match kind {
-        long::KIND => (1 + BODY_SYMBOLS, Problem::BodyTooLong(fields.len().saturating_sub(1))),
-        _ => (3, Problem::TooManyFields(fields.len())),
+/// The first field that is one too many: it would not be stored, or it is a word where the kind uses no field. A number there is for the library to
+/// judge.
+fn extra_field<'a>(kind: u8, fields: &'a [Word<'a>]) -> Option<&'a Word<'a>> {
+    let (used, stored) = match kind {
+        long::KIND => (1 + BODY_SYMBOLS, 1 + BODY_SYMBOLS),
+        _ => (format::used_fields(kind).unwrap_or(3), 3),
     };
-    fields.get(most).map_or(Ok(()), |extra| Err(line.error(extra, problem)))
+    let word = || fields.iter().skip(used).find(|word| number(word.text).is_none());
+    fields.get(stored).or_else(word)
+}
+
+/// An error where a record has fewer fields than its kind uses, or more.
+fn check_number(line: &Line<'_>, kind: u8, fields: &[Word<'_>]) -> Result<(), TextError> {
+    let least = if kind == long::KIND { 1 } else { format::used_fields(kind).unwrap_or(0) };
+    let problem = Problem::FieldNumber { kind, fields: fields.len() };
+    match extra_field(kind, fields) {
+        Some(extra) if kind == long::KIND => Err(line.error(extra, Problem::BodyTooLong(fields.len() - 1))),
+        Some(extra) => Err(line.error(extra, problem)),
+        None if fields.len() < least => Err(TextError { span: line.whole(), problem }),
+        None => Ok(()),
+    }
 }
 
 /// The record of a line, as one of a long job.
@@ -161,6 +237,18 @@ fn record(line: &Line<'_>, names: &Names) -> Result<LongRecord, TextError> {
     Ok(rule.filter(|_| kind == long::KIND).unwrap_or_else(|| long::padded([kind, a, b, c])))
 }
 
+/// The form of a form line.
+fn form(line: &Line<'_>, names: &Names) -> Result<FormLine, TextError> {
+    let words = &line.words[1..];
+    if words.is_empty() {
+        return Err(TextError { span: line.whole(), problem: Problem::FormWords });
+    }
+    let unknown = |(word, unknown)| line.error(&word, Problem::NoForm(unknown));
+    let symbols = names.read_words(words).map_err(unknown)?;
+    let text = words.iter().map(|word| word.text).collect::<Vec<&str>>().join(" ");
+    Ok(FormLine { line: line.number, text, symbols })
+}
+
 /// Reads a text.
 ///
 /// ```
@@ -172,17 +260,24 @@ fn record(line: &Line<'_>, names: &Names) -> Result<LongRecord, TextError> {
 /// Everything in the text that is no part of the format, by lines.
 pub fn read(text: &str) -> Result<Text, Vec<TextError>> {
     let (lines, mut errors) = lines(text);
-    let names = names(&lines, &mut errors);
+    let names = named(&lines, &mut errors);
     let mut found = Text { names, ..Text::default() };
     let mut records = Vec::new();
-    for line in lines.iter().filter(|line| !matches!(line.words[0].text, "name" | "state")) {
-        match record(line, &found.names) {
-            Ok(record) => {
-                records.push(record);
-                let words = line.words.iter().map(|word| line.span(word)).collect();
-                found.records.push(RecordPlace { line: line.number, words });
-            }
-            Err(error) => errors.push(error),
+    for line in &lines {
+        match line.words[0].text {
+            "name" | "state" => {}
+            "form" => match form(line, &found.names) {
+                Ok(form) => found.forms.push(form),
+                Err(error) => errors.push(error),
+            },
+            _ => match record(line, &found.names) {
+                Ok(record) => {
+                    records.push(record);
+                    let words = line.words.iter().map(|word| line.span(word)).collect();
+                    found.records.push(RecordPlace { line: line.number, words });
+                }
+                Err(error) => errors.push(error),
+            },
         }
     }
     if errors.is_empty() {

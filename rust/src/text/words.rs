@@ -21,7 +21,7 @@ impl Word<'_> {
 fn word_length(text: &str, comments: bool) -> Option<usize> {
     if !text.starts_with('"') {
         let ends = |c: char| c.is_whitespace() || c == '"' || (comments && c == '#');
-        return Some(text.find(ends).unwrap_or(text.len()));
+        return Some(text.char_indices().skip(1).find(|(_, c)| ends(*c)).map_or(text.len(), |(at, _)| at));
     }
     let mut escaped = false;
     for (at, c) in text.char_indices().skip(1) {
@@ -45,6 +45,12 @@ pub(crate) fn form_words(form: &str) -> Result<Vec<Word<'_>>, usize> {
     split(form, false)
 }
 
+/// Whether a comment begins here. In a form line the sign before a digit is a symbol's.
+fn is_comment(rest: &str, before: &[Word<'_>]) -> bool {
+    let in_form = before.first().is_some_and(|word| word.text == "form");
+    rest.strip_prefix('#').is_some_and(|rest| !(in_form && rest.starts_with(|c: char| c.is_ascii_digit())))
+}
+
 fn split(line: &str, comments: bool) -> Result<Vec<Word<'_>>, usize> {
     let mut words = Vec::new();
     let mut at = 0;
@@ -52,7 +58,7 @@ fn split(line: &str, comments: bool) -> Result<Vec<Word<'_>>, usize> {
         let rest = &line[at..];
         let start = at + (rest.len() - rest.trim_start().len());
         let rest = &line[start..];
-        if rest.is_empty() || (comments && rest.starts_with('#')) {
+        if rest.is_empty() || (comments && is_comment(rest, &words)) {
             return Ok(words);
         }
         let length = word_length(rest, comments).ok_or(start)?;
@@ -113,6 +119,8 @@ mod tests {
         assert_eq!(texts(r##"name 40 "#" # hash"##), ["name", "40", "\"#\""]);
         assert_eq!(texts(r#"name 40 "\"""#), ["name", "40", r#""\"""#]);
         assert_eq!(texts("# nothing"), Vec::<&str>::new());
+        assert_eq!(texts("form a #5#6 # five, six"), ["form", "a", "#5", "#6"]);
+        assert_eq!(texts("P 0 1 2#5"), ["P", "0", "1", "2"]);
         assert_eq!(words("U 0 \"F"), Err(4));
     }
 

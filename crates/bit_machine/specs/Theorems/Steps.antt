@@ -8,6 +8,7 @@ use lib.ListN.{length}
 use Rattle.grammar.specs.Rule.{Rule}
 use Rattle.machine.specs.Table.{Lent, tableSize, fromState, symbolAt, toState, Statuses, statuses}
 use Rattle.machine.specs.Step.{lowest, isFinished, comesIn}
+use Rattle.machine.specs.Advance.{stepsMade, meetingsMade}
 use Rattle.bit_machine.specs.BitTable.{bitsSize, pendingHalf, doneHalf, bitAt}
 use Rattle.bit_machine.specs.Machine.{asBytes, stepsBits}
 
@@ -25,8 +26,16 @@ StepBitByBit =
     (ρs : List Rule) (m : Lent) → bitsSize ≤ length (m .table) → isFinished (statuses (asBytes m .table)) ≡ false →
     StepInBits ρs (statuses (asBytes m .table)) (m .table) (stepsBits ρs 1 m .table)
 
--- Table and machine: a steps and then b are a + b steps
+-- Table and machine, The bit table: a steps and then b are a + b steps, and their counts, which are those of the byte
+-- table that says the same, add up
+pub record JoinedBits (ρs : List Rule) (m : Lent) (a b : ℕ) : Type 0 where
+  pub lent : stepsBits ρs (a + b) m ≡ stepsBits ρs b (stepsBits ρs a m)
+  pub made :
+      stepsMade ρs (a + b) (asBytes m)
+      ≡ stepsMade ρs a (asBytes m) + stepsMade ρs b (asBytes (stepsBits ρs a m))
+  pub met :
+      meetingsMade ρs (a + b) (asBytes m)
+      ≡ meetingsMade ρs a (asBytes m) + meetingsMade ρs b (asBytes (stepsBits ρs a m))
+
 unfoldable pub StepsBitsAddUp : Type 0
-StepsBitsAddUp =
-    (ρs : List Rule) (m : Lent) → bitsSize ≤ length (m .table) → (a b : ℕ) →
-    stepsBits ρs (a + b) m ≡ stepsBits ρs b (stepsBits ρs a m)
+StepsBitsAddUp = (ρs : List Rule) (m : Lent) → bitsSize ≤ length (m .table) → (a b : ℕ) → JoinedBits ρs m a b

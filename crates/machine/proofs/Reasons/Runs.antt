@@ -5,7 +5,7 @@ use Rattle.grammar.proofs.Basics.{eq-eqb, lt-ltb, leb-true, leb-false, not-true
 use Rattle.grammar.specs.Rule.{Rule, empty}
 use Rattle.grammar.specs.Automaton.{Holds}
 use Rattle.job.specs.Job.{Job}
-use Rattle.machine.specs.Table.{Lent, tableSize, reasonsSize, reasonPlace, reasonIn, turnAt}
+use Rattle.machine.specs.Table.{Lent, tableSize, reasonsSize, reasonPlace, reasonIn, turnIn, turnAt}
 use Rattle.machine.specs.Start.{emptyReason, isEmptyAt, started}
 use Rattle.machine.specs.Step.{lowest}
 use Rattle.machine.specs.Advance.{steps}
@@ -63,11 +63,15 @@ module _ (J : Job) (range : InRange J) (m : Lent) (long : LongTable m)
       (λ b. rw (g, b) (empty-reason-below A (J .rules) (range .rule-count)))
       (λ b. rw (g, b) (omega arith))))
 
+  pub start-turn-in : (q A r : ℕ) → q < 32 → A < 32 → r < 32 →
+      turnIn (getD (started J m .reasons) (reasonPlace q A r) 0) ≡ 0
+  start-turn-in q A r ql al rl = omega (arith, start-below q A r ql al rl)
+
   start-turn : (i : ℕ) → i < tableSize → turnAt (started J m .reasons) i ≡ 0
   start-turn =
       by-parts (λ i. turnAt (started J m .reasons) i ≡ 0)
       (λ q X r ql xl rl. rw turn-at
-      (cases (leb 32 X) (λ t. rw t) (λ t. rw t (omega (arith, start-below q X r ql (leb-false 32 X t) rl)))))
+      (cases (leb 32 X) (λ t. rw t) (λ t. rw t (start-turn-in q X r ql (leb-false 32 X t) rl))))
 
   start-reason : (q A r : ℕ) → q < 32 → A < 32 → r < 32 →
       reasonIn (getD (started J m .reasons) (reasonPlace q A r) 0) ≡ getD (started J m .reasons) (reasonPlace q A r) 0

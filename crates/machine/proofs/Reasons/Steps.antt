@@ -49,7 +49,7 @@ module _ (J : Job) (range : InRange J) where
         let s = stays q X r ql xl rl (a .is-done) in
         record { is-done = s .0; earlier = omega (arith, a .earlier) }
 
-    reason-carries : (q A r n : ℕ) → q < 32 → r < 32 → turn' (tablePlace q A r) ≡ turn (tablePlace q A r) →
+    pub reason-carries : (q A r n : ℕ) → q < 32 → r < 32 → turn' (tablePlace q A r) ≡ turn (tablePlace q A r) →
         Reason J done turn q A r n → Reason J done' turn' q A r n
     reason-carries q A r n ql rl same (Reason.by-given g e) = Reason.by-given g e
     reason-carries q A r n ql rl same (Reason.by-empty rank g e rule s l) = Reason.by-empty rank g e rule s l

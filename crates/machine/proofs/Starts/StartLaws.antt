@@ -19,9 +19,9 @@ use Rattle.machine.proofs.Starts.EmptyRules.{among-reason, reason-among
 use Rattle.machine.proofs.Growing.Invariant.{Grown, There}
 
 module _ (J : Job) (m : Lent) where
-  pub started-keeps-rest : KeepsRest m (started J m)
+  pub started-keeps-rest : KeepsRest tableSize m (started J m)
   unfolding started
-  started-keeps-rest = changed-keeps-rest _ _ m
+  started-keeps-rest = changed-keeps-rest tableSize _ _ m
 
   pub started-length : length (started J m .table) ≡ length (m .table)
   started-length = started-keeps-rest .long-table

@@ -80,12 +80,15 @@ module _ (v w : Statuses) (agree : (p : ℕ) → p < tableSize → v p ≡ w p) 
           (ap₂ entryOf (offered-agree (reasonState k) (reasonVariable k) (toState k) (omega arith) (omega arith))
           (turn-agree v w agree p))
 
--- the first 65,536 bytes and 32,768 reasons
+-- the first bytes of a table and 32,768 reasons; here the bytes are 65,536
+abbrev pub firstOf : ℕ → Lent → Lent
+firstOf size m = lentOf (take size (m .table)) (take reasonsSize (m .reasons))
+
 abbrev pub first : Lent → Lent
-first m = record { table = take tableSize (m .table); reasons = take reasonsSize (m .reasons) }
+first = firstOf tableSize
 
 -- the first parts of two changed lists are equal element by element
-take-alike : (n : ℕ) (f g : ℕ → ℕ → ℕ) (l l' : List ℕ) → min n (length l) ≡ min n (length l') →
+pub take-alike : (n : ℕ) (f g : ℕ → ℕ → ℕ) (l l' : List ℕ) → min n (length l) ≡ min n (length l') →
     ((k : ℕ) → k < n → f k (getD l k 0) ≡ g k (getD l' k 0)) → take n (each f 0 l) ≡ take n (each g 0 l')
 take-alike n f g l l' long same =
     ext-getD 0 _ _ (simp (length-take, length-each) long)
@@ -94,7 +97,7 @@ take-alike n f g l l' long same =
     let kn : k < n = omega arith in
     rw (getD-take, getD-take) (getD-each-0 f l k (omega arith) ∙ same k kn ∙ sym (getD-each-0 g l' k (omega arith))))
 
-said-first : (t : List ℕ) (p : ℕ) → p < tableSize → statuses t p ≡ statuses (take tableSize t) p
+pub said-first : (t : List ℕ) (p : ℕ) → p < tableSize → statuses t p ≡ statuses (take tableSize t) p
 unfolding statuses
 said-first t p l = ap byteStatus (sym (getD-take tableSize t p 0 l))
 

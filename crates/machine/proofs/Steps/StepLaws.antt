@@ -2,17 +2,18 @@
 -- tables are written, is drawn along a run. Each step that is made makes one place done, so the done count rises by
 -- the steps made, and it cannot pass 65,536. Assumes nothing.
 use Rattle.grammar.proofs.Basics.{_≡_, refl, _∙_, ap, ⊎-elim, inl, inr, _⊎_, true, false, List, ℕ, _≤_, _+_, suc, zero}
-use Rattle.grammar.proofs.Basics.{zero-add, suc-add, arith, cases}
+use Rattle.grammar.proofs.Basics.{zero-add, suc-add, arith, ltb, ltb-false, ltb-true, cases}
 use Rattle.grammar.specs.Rule.{Rule}
 use Rattle.grammar.proofs.Counting.{count-bound, count-equal, count-all}
-use Rattle.machine.specs.Table.{Lent, KeepsRest, tableSize, Statuses, isDoneAt, statuses, doneCount}
+use Rattle.machine.specs.Table.{Lent, KeepsRest, tableSize, Statuses, saysDone, isDoneAt, statuses, doneCount}
 use Rattle.machine.specs.Step.{lowest, isFinished, taking, step}
 use Rattle.machine.specs.Advance.{steps, stepsMade}
 use Rattle.machine.specs.Theorems.Steps.{LongTable}
 use Rattle.machine.proofs.Tables.Statuses.{done-not-pending}
 use Rattle.machine.proofs.Tables.Lowest.{unfinished-below, lowest-is-pending, none-pending-finished}
-use Rattle.machine.proofs.Steps.Taken.{Taken, taken-done-count}
+use Rattle.machine.proofs.Steps.Taken.{Taken, taken-done, taken-done-count, done-others}
 use Rattle.machine.proofs.Steps.Taking.{taking-length, taking-keeps-rest, taking-done-kept, taking-taken}
+use Rattle.machine.proofs.Steps.Taking.{taking-says-past}
 
 -- what the bytes of the lent table say
 abbrev pub said : Lent → Statuses
@@ -38,8 +39,12 @@ module _ (P : Lent → Type 0) (ρs : List Rule)
   steps-keep zero m h = h
   steps-keep (suc n) m h = steps-keep n _ (step-keeps m h)
 
-rest-after : {m m' m'' : Lent} → KeepsRest m m' → KeepsRest m' m'' → KeepsRest m m''
-rest-after a b =
+-- what is lent past a table and the reasons, as it was
+pub rest-same : (size : ℕ) (m : Lent) → KeepsRest size m m
+rest-same size m = record { long-table = refl; long-reasons = refl; rest-table = refl; rest-reasons = refl }
+
+pub rest-after : (size : ℕ) (l m n : Lent) → KeepsRest size l m → KeepsRest size m n → KeepsRest size l n
+rest-after size l m n a b =
     record {
       long-table = b .long-table ∙ a .long-table;
       long-reasons = b .long-reasons ∙ a .long-reasons;
@@ -58,10 +63,10 @@ all-done-finished v all =
 
 module _ (ρs : List Rule) where
   -- lengths, and what lies past the first 65,536 bytes and 32,768 numbers, stay
-  pub steps-keep-rest : (n : ℕ) (m : Lent) → KeepsRest m (steps ρs n m)
+  pub steps-keep-rest : (n : ℕ) (m : Lent) → KeepsRest tableSize m (steps ρs n m)
   steps-keep-rest n m =
-      steps-keep (KeepsRest m) ρs (λ m' f k. rest-after k (taking-keeps-rest ρs _ m')) n m
-      (record { long-table = refl; long-reasons = refl; rest-table = refl; rest-reasons = refl })
+      steps-keep (KeepsRest tableSize m) ρs (λ m' f k. rest-after tableSize m m' _ k (taking-keeps-rest ρs _ m')) n m
+      (rest-same tableSize m)
 
   pub steps-long : (n : ℕ) (m : Lent) → LongTable m → LongTable (steps ρs n m)
   steps-long n m long = omega (arith, steps-keep-rest n m .long-table)
@@ -153,3 +158,15 @@ steps-keep-said P ρs keeps n m long h =
       keeps _ _ _ (lowest-taken ρs m' (k .0) e) (k .1),
     ))
     n m (long, h) .1
+
+-- a step makes the lowest pending place done, and no other
+module _ (ρs : List Rule) (m : Lent) (long : LongTable m) (unfinished : isFinished (said m) ≡ false) where
+  pub step-done : isDoneAt (said (step ρs m)) (lowest (said m)) ≡ true
+  step-done = rw step-taking (taken-done (lowest-taken ρs m long unfinished))
+
+  pub step-done-others : (i : ℕ) → (i ≡ lowest (said m) → ⊥) → isDoneAt (said (step ρs m)) i ≡ isDoneAt (said m) i
+  step-done-others i d =
+      rw step-taking
+      (cases (ltb i tableSize)
+      (λ l. done-others (lowest-taken ρs m long unfinished) i (ltb-true i tableSize l) d)
+      (λ l. ap saysDone (taking-says-past ρs (lowest (said m)) m i (ltb-false i tableSize l))))

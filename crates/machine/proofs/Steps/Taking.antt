@@ -16,9 +16,9 @@ module _ (ρs : List Rule) (p : ℕ) (m : Lent) where
   abbrev v : ℕ → Status
   v = statuses (m .table)
 
-  pub taking-keeps-rest : KeepsRest m (taking ρs p m)
+  pub taking-keeps-rest : KeepsRest tableSize m (taking ρs p m)
   unfolding taking
-  taking-keeps-rest = changed-keeps-rest _ _ m
+  taking-keeps-rest = changed-keeps-rest tableSize _ _ m
 
   pub taking-length : length (taking ρs p m .table) ≡ length (m .table)
   taking-length = taking-keeps-rest .long-table

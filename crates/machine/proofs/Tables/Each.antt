@@ -5,7 +5,7 @@ use Rattle.grammar.proofs.Basics.{suc-add, arith, eqb, leb, length, getD, take,
 use Rattle.grammar.proofs.Basics.{getD-set-other, getD-set-same, ext-getD, eqb-true, eqb-false, le-leb, cases}
 use native.Mathlib.Nat.{add-suc}
 use lib.Seq.{getD-drop}
-use Rattle.machine.specs.Table.{Lent, lentOf, KeepsRest, tableSize, reasonsSize, each}
+use Rattle.machine.specs.Table.{Lent, lentOf, KeepsRest, reasonsSize, each}
 
 pub length-each : (f : ℕ → ℕ → ℕ) (i : ℕ) (l : List ℕ) → length (each f i l) ≡ length l
 unfolding each
@@ -50,19 +50,19 @@ take-each f i (suc n) (x ∷ xs) = ap (λ z. f i x ∷ z) (take-each f (suc i) n
 abbrev pub upTo : ℕ → (ℕ → ℕ → ℕ) → ℕ → ℕ → ℕ
 upTo n f k old = cond (leb n k) old (f k old)
 
-rest-kept : (n : ℕ) (f : ℕ → ℕ → ℕ) (l : List ℕ) → drop n (each (upTo n f) 0 l) ≡ drop n l
+pub rest-kept : (n : ℕ) (f : ℕ → ℕ → ℕ) (l : List ℕ) → drop n (each (upTo n f) 0 l) ≡ drop n l
 rest-kept n f l =
     ext-getD 0 _ _ (simp (length-drop, length-each))
     (λ k h. rw (getD-drop, getD-drop)
     (getD-each-0 _ l _ (omega (arith, simp (length-drop, length-each) at h)) ∙ rw (le-leb n (n + k) (omega arith))))
 
-pub changed-keeps-rest : (f g : ℕ → ℕ → ℕ) (m : Lent) →
-    KeepsRest m (lentOf (each (upTo tableSize f) 0 (m .table)) (each (upTo reasonsSize g) 0 (m .reasons)))
-changed-keeps-rest f g m =
+pub changed-keeps-rest : (n : ℕ) (f g : ℕ → ℕ → ℕ) (m : Lent) →
+    KeepsRest n m (lentOf (each (upTo n f) 0 (m .table)) (each (upTo reasonsSize g) 0 (m .reasons)))
+changed-keeps-rest n f g m =
     record {
       long-table = length-each _ 0 (m .table);
       long-reasons = length-each _ 0 (m .reasons);
-      rest-table = rest-kept tableSize f (m .table);
+      rest-table = rest-kept n f (m .table);
       rest-reasons = rest-kept reasonsSize g (m .reasons);
     }
 

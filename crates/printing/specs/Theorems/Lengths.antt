@@ -10,7 +10,7 @@ use Rattle.printing.specs.Outputs.{reportOutput, codesOutput, mostRecord
 abbrev pub Bytes : List ℕ → Type 0
 Bytes l = (i : ℕ) → getD l i 0 < 256
 
--- The report program: no text is longer than this, so a buffer of as many bytes is never too short
+-- The report program: no output is longer than this, so a buffer of as many bytes is never too short
 pub record OutputsFit : Type 0 where
   pub report : (r : Report) → length (reportOutput r) ≤ 117
   pub codes : (number place : ℕ) (codes : List ℕ) → Bytes codes → length (codesOutput number place codes) ≤ 448

@@ -6,4 +6,4 @@ use Rattle.forms.proofs.listing_theorems.records_are_right.Tie as tie
 
 pub records-are-right-spec : {M : Type 1} → statement M
 unfolding RecordsAreRight
-records-are-right-spec = tie.close (tie.spec (λ c ρs given reasons t ps. records-are-right))
+records-are-right-spec = tie.close (tie.spec (λ c ρs given s reasons t ps. records-are-right))

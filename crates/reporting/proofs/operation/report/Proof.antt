@@ -3,8 +3,8 @@
 use Rattle.grammar.proofs.Basics.{refl, _∙_, arith, needs}
 use denote.Ref.{now}
 use Rattle.machine.specs.Table.{lentOf}
-use Rattle.reporting.proofs.Outcome.{report-refused, report-given}
-use Rattle.reporting.proofs.Through.{Passed, checks-passed, start-fits, start-accepted, report-ran}
+use Rattle.reports.proofs.Outcome.{report-refused, report-given}
+use Rattle.reports.proofs.Through.{Passed, checks-passed, start-fits, start-accepted, report-ran}
 use Rattle.reporting.proofs.operation.report.Statement.{statement}
 use Rattle.reporting.proofs.operation.report.Tie as tie
 

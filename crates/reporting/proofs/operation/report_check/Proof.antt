@@ -1,7 +1,7 @@
 -- `operation::report_check` meets its contract: the buffers and then the job, as `reportCheck` has them. Assumes
 -- nothing.
 use Rattle.grammar.proofs.Basics.{needs}
-use Rattle.reporting.specs.Operation.{reportCheck}
+use Rattle.reports.specs.Operation.{reportCheck}
 use Rattle.reporting.proofs.operation.report_check.Statement.{statement}
 use Rattle.reporting.proofs.operation.report_check.Tie as tie
 

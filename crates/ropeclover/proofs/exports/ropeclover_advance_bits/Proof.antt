@@ -8,5 +8,5 @@ pub ropeclover-advance-bits-spec : {M : Type 1} → statement M
 ropeclover-advance-bits-spec =
     tie.close (tie.spec (λ c κs. search needs) (λ c κs. search needs) (λ c. search needs) (λ c. search needs)
     (λ c.
-    let done = c .before .before .before .before .before .before .advance-bits .ensures in
+    let done = c .before .before .before .before .before .before .advance .ensures in
     rw (c .write-advanced .ensures, ← done) (refl, refl)))

@@ -8,5 +8,5 @@ pub ropeclover-start-bits-spec : {M : Type 1} → statement M
 ropeclover-start-bits-spec =
     tie.close (tie.spec (λ c κs. search needs) (λ c κs. search needs) (λ c. search needs) (λ c. search needs)
     (λ c.
-    let done = c .before .before .before .before .before .before .start-bits .ensures in
+    let done = c .before .before .before .before .before .before .start .ensures in
     rw (c .write3 .ensures, ← done) (refl, refl)))

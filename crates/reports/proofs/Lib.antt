@@ -1,2 +1,4 @@
 pub mod Outcome
 pub mod Through
+pub mod Means
+pub mod Sample

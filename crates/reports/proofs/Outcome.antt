@@ -8,8 +8,8 @@ use Rattle.forms.specs.declared.Asked.{Asked}
 use Rattle.forms.specs.Operations.{askOf}
 use Rattle.verdicts.specs.Operation.{VerdictsOutcome, verdictsOf}
 use Rattle.printing.specs.declared.Report.{Report}
-use Rattle.reporting.specs.Operation.{reportCheck, refusedReport, reportLeaves, reportFrom, runToEnd, reportOn}
-use Rattle.reporting.specs.Operation.{reportOf}
+use Rattle.reports.specs.Operation.{reportCheck, refusedReport, reportLeaves, reportFrom, runToEnd, reportOn}
+use Rattle.reports.specs.Operation.{reportOf}
 
 module _ (job : List ℕ) (m : Lent) (codes : List ℕ) where
   -- the four operations, each on what the one before left

@@ -24,9 +24,9 @@ use Rattle.forms.specs.Inside.ExplainParts.{BitsSay}
 use Rattle.forms.proofs.AskAnswers.{accepts-alike}
 use Rattle.verdicts.specs.Operation.{VerdictsOutcome, verdictsCheck, verdictsCheckBy, verdictsOn, verdictsOf}
 use Rattle.verdicts.proofs.Outcome.{verdicts-given}
-use Rattle.reporting.specs.Operation.{reportCheck, reportLeaves, reportOn, runToEnd}
-use Rattle.reporting.proofs.Outcome.{composed}
-use Rattle.reporting.specs.Theorems.{RunsThrough}
+use Rattle.reports.specs.Operation.{reportCheck, reportLeaves, reportOn, runToEnd}
+use Rattle.reports.proofs.Outcome.{composed}
+use Rattle.reports.specs.Theorems.{RunsThrough}
 
 -- what the checks of the report make sure of
 pub record Passed (job : List ℕ) (m : Lent) (codes : List ℕ) : Type 0 where
@@ -35,7 +35,7 @@ pub record Passed (job : List ℕ) (m : Lent) (codes : List ℕ) : Type 0 where
   pub long-codes : 64 ≤ length codes
   pub ok : Accepted true job
 
-report-passed : (job : List ℕ) (m : Lent) (codes : List ℕ) → reportCheck job m codes .number ≡ 0 → Passed job m codes
+pub report-passed : (job : List ℕ) (m : Lent) (codes : List ℕ) → reportCheck job m codes .number ≡ 0 → Passed job m codes
 unfolding reportCheck
 report-passed job m codes e =
     let (short, ok) = call-passed _ true job e in
@@ -112,13 +112,17 @@ module _ (job : List ℕ) (ok : Accepted true job) where
       rw (le-ltb (length table) tableSize long, accepted-check ok) form-passes in
       rw (eq-eqb (askCheck job table form .number) 0 z)
 
+  pub verdicts-pass : (table codes : List ℕ) → tableSize ≤ length table → 64 ≤ length codes →
+      verdictsCheck job table codes .number ≡ 0
+  unfolding verdictsCheckBy
+  verdicts-pass table codes long enough =
+      rw (le-ltb (length table) 65536 long, le-ltb (length codes) 64 enough, accepted-check (without-need ok))
+
   verdicts-number : (table codes : List ℕ) → tableSize ≤ length table → 64 ≤ length codes →
       verdictsOf job table codes .answer .number ≡ 0
-  unfolding verdictsCheckBy verdictsOn
+  unfolding verdictsOn
   verdicts-number table codes long enough =
-      let z : verdictsCheck job table codes .number ≡ 0 =
-      rw (le-ltb (length table) 65536 long, le-ltb (length codes) 64 enough, accepted-check (without-need ok)) in
-      ap (λ o. o .answer .number) (verdicts-given job table codes z)
+      ap (λ o. o .answer .number) (verdicts-given job table codes (verdicts-pass table codes long enough))
 
 module _ (job : List ℕ) (m : Lent) (z : machineCheck job m .number ≡ 0) where
   -- the outcomes of start and advance
@@ -145,16 +149,16 @@ module _ (job : List ℕ) (m : Lent) (z : machineCheck job m .number ≡ 0) wher
 
 -- what each of the four calls of a report works on
 module _ {job : List ℕ} {m : Lent} {codes : List ℕ} (p : Passed job m codes) where
-  abbrev begun : Lent
+  abbrev pub begun : Lent
   begun = started (jobOf job) m
 
-  abbrev ended : Lent
+  abbrev pub ended : Lent
   ended = steps (jobOf job .rules) 65536 begun
 
-  begun-long : tableSize ≤ length (begun .table)
+  pub begun-long : tableSize ≤ length (begun .table)
   begun-long = rw (started-length (jobOf job) m) (p .long)
 
-  ended-long : tableSize ≤ length (ended .table)
+  pub ended-long : tableSize ≤ length (ended .table)
   ended-long = steps-long (jobOf job .rules) 65536 begun begun-long
 
   machine-first : machineCheck job m .number ≡ 0

@@ -1,0 +1,35 @@
+//! The crate says what the C header says: its version, and each refusal in words.
+use std::collections::HashMap;
+
+fn header() -> String {
+    std::fs::read_to_string(concat!(env!("CARGO_MANIFEST_DIR"), "/../include/ropeclover.h")).unwrap()
+}
+
+/// The numbers of the refusals by their names: lines `NAME = N,` of the enumeration.
+fn numbers(header: &str) -> HashMap<&str, u64> {
+    let start = header.find("enum ropeclover_refusal {").unwrap();
+    let end = start + header[start..].find("};").unwrap();
+    let lines = header[start..end].lines().filter_map(|line| line.trim().split_once(" = "));
+    lines.map(|(name, rest)| (name, rest.split([',', ' ']).next().unwrap().parse().unwrap())).collect()
+}
+
+#[test]
+fn versions_agree() {
+    let header = header();
+    let line = header.lines().find_map(|line| line.strip_prefix("#define ROPECLOVER_VERSION \"")).unwrap();
+    assert_eq!(line.trim_end_matches('"'), ropeclover::VERSION);
+}
+
+#[test]
+fn refusals_have_the_same_words() {
+    let header = header();
+    let numbers = numbers(&header);
+    let cases = header.lines().filter_map(|line| line.trim().strip_prefix("case ")?.split_once(": return \""));
+    let mut found = 0;
+    for (name, text) in cases {
+        assert_eq!(ropeclover::refusal_text(numbers[name]), text.trim_end_matches("\";"), "{name}");
+        found += 1;
+    }
+    assert_eq!(found, 16);
+    assert_eq!(ropeclover::refusal_text(16), "an unknown refusal");
+}
