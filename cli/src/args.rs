@@ -1,5 +1,5 @@
 //! The command line.
-use clap::{Parser, Subcommand, ValueEnum};
+use clap::{Parser, Subcommand, ValueEnum, ValueHint};
 use std::path::PathBuf;
 
 const AFTER_HELP: &str = "\
@@ -103,16 +103,16 @@ pub struct Nightly {
     #[arg(value_name = "FILE")]
     pub files: Vec<PathBuf>,
     /// Steps made at a time
-    #[arg(long, value_name = "N", default_value_t = 16384, value_parser = clap::value_parser!(u64).range(1..))]
+    #[arg(long, value_name = "N", default_value_t = 16384, value_parser = clap::value_parser!(u64).range(1..), value_hint = ValueHint::Other)]
     pub steps: u64,
     /// Chooses the order of the shuffled records
-    #[arg(long, value_name = "N", default_value_t = 1)]
+    #[arg(long, value_name = "N", default_value_t = 1, value_hint = ValueHint::Other)]
     pub seed: u64,
     /// Files checked at a time [default: the number of processors]
-    #[arg(long, value_name = "N", value_parser = clap::value_parser!(u16).range(1..))]
+    #[arg(long, value_name = "N", value_parser = clap::value_parser!(u16).range(1..), value_hint = ValueHint::Other)]
     pub jobs: Option<u16>,
     /// A form to explain besides the start symbol, as 'memory "5" tone'; may be repeated
-    #[arg(long = "form", value_name = "FORM")]
+    #[arg(long = "form", value_name = "FORM", value_hint = ValueHint::Other)]
     pub forms: Vec<String>,
     /// Compare with what BASELINE says was last seen; write what it lacks
     #[arg(long, value_name = "BASELINE")]

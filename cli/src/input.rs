@@ -4,13 +4,14 @@ use crate::failure::{complain, Failure};
 use crate::form;
 use crate::quote::{self, Mark, Page};
 use ropeclover::format::Class;
-use ropeclover::long::{self, LongRecord};
+use ropeclover::long::{self, LongRecord, Ordinary};
 use ropeclover::text::{self, FormLine, Names, RecordPlace, Text, TextError, UnknownSymbol};
-use ropeclover::{JOB_BYTES, LONG_JOB_BYTES, LONG_RECORD_BYTES};
+use ropeclover::{JOB_BYTES, LONG_JOB_BYTES, LONG_RECORD_BYTES, RECORD_BYTES};
 use std::fmt;
 use std::fs::File;
 use std::io::{self, IsTerminal, Read};
 use std::path::{Path, PathBuf};
+use std::slice::ChunksExact;
 
 /// The longest text in bytes: room for the longest job with long comments.
 const TEXT_BYTES: usize = 1 << 24;
@@ -26,6 +27,8 @@ pub struct Input {
     pub job: Vec<u8>,
     /// The long job that was read, if it was one.
     pub long: Option<Vec<u8>>,
+    /// The variables that were taken to write it.
+    pub fresh: Vec<u8>,
     pub names: Names,
     pub source: Option<Source>,
     /// The forms that a text asks about.
@@ -55,10 +58,19 @@ impl Input {
         self.long.as_ref().unwrap_or(&self.job)
     }
 
+    /// The records that were read.
+    fn records(&self) -> ChunksExact<'_, u8> {
+        self.bytes().chunks_exact(if self.long.is_some() { LONG_RECORD_BYTES } else { RECORD_BYTES })
+    }
+
+    /// The number of records that were read.
+    pub fn record_count(&self) -> usize {
+        self.records().len()
+    }
+
     /// The bytes of a record that was read, by its number.
     pub fn record_bytes(&self, number: usize) -> Option<&[u8]> {
-        let size = if self.long.is_some() { LONG_RECORD_BYTES } else { 4 };
-        self.bytes().chunks_exact(size).nth(number)
+        self.records().nth(number)
     }
 
     /// A record that was read, by its number; a job's record as one of a long job.
@@ -85,18 +97,20 @@ pub enum Unreadable {
     NoSpelling { name: String, record: usize },
 }
 
-/// How many lines are malformed, in words.
-fn malformed(lines: usize, more: &str) -> String {
-    match lines {
-        1 => format!("1 {more}line is malformed"),
-        lines => format!("{lines} {more}lines are malformed"),
+/// How many lines are malformed but for those that are shown, in words. Of the most errors that are read there may be more.
+fn malformed(errors: &[TextError], shown: usize) -> String {
+    let least = if errors.len() == text::MOST_ERRORS { "at least " } else { "" };
+    let more = if shown > 0 { "more " } else { "" };
+    match errors.len() - shown {
+        1 => format!("{least}1 {more}line is malformed"),
+        lines => format!("{least}{lines} {more}lines are malformed"),
     }
 }
 
 impl fmt::Display for Unreadable {
     fn fmt(&self, f: &mut fmt::Formatter<'_>) -> fmt::Result {
         match self {
-            Unreadable::Malformed { name, errors, .. } => write!(f, "{name}: {}", malformed(errors.len(), "")),
+            Unreadable::Malformed { name, errors, .. } => write!(f, "{name}: {}", malformed(errors, 0)),
             Unreadable::NotText { name, line, offset } => write!(
                 f,
                 "{name}: neither a job, as no byte is zero, nor text, as line {line} is no UTF-8 at byte {offset}"
@@ -127,9 +141,9 @@ impl Unreadable {
 }
 
 /// The name that may have been meant by a word that is none.
-fn suggestion(problem: &text::Problem, names: &Names) -> Option<String> {
+pub fn suggestion<'a>(problem: &text::Problem, names: &'a Names) -> Option<&'a str> {
     let symbols = |end: u8| (0..end).filter_map(|symbol| names.symbol_name(symbol));
-    let near = match problem {
+    match problem {
         text::Problem::NoField(word, Some(Class::Variable)) => form::nearest(word, symbols(32)),
         text::Problem::NoField(word, Some(Class::Symbol)) => form::nearest(word, symbols(64)),
         text::Problem::NoField(word, Some(Class::State)) => {
@@ -138,23 +152,23 @@ fn suggestion(problem: &text::Problem, names: &Names) -> Option<String> {
         text::Problem::NoForm(UnknownSymbol::Word(word)) => form::nearest(word, symbols(64)),
         text::Problem::NoKind(word) => form::nearest(word, ["name", "state", "form"].into_iter()),
         _ => None,
-    };
-    near.map(|name| format!("did you mean '{name}'?"))
+    }
 }
 
 fn tell_malformed(name: &str, text: &str, errors: &[TextError]) {
     let names = text::names(text);
-    let page = Page { name, lines: text.lines().collect(), first_number: 1 };
+    let page = Page { name, text, first_number: 1 };
     for error in errors.iter().take(SHOWN_ERRORS) {
         let mut marks = vec![Mark::primary(error.span.line - 1, error.span.start, error.span.end, "")];
         if let text::Problem::NamedAlready(earlier) | text::Problem::NameTaken(earlier) = &error.problem {
             marks.push(Mark::secondary(earlier.line - 1, earlier.start, earlier.end, "first here"));
         }
-        let notes: Vec<String> = suggestion(&error.problem, &names).into_iter().collect();
+        let near = suggestion(&error.problem, &names);
+        let notes: Vec<String> = near.iter().map(|name| format!("did you mean '{name}'?")).collect();
         quote::show(&page, None, &error.problem.to_string(), &marks, &notes);
     }
     if errors.len() > SHOWN_ERRORS {
-        complain(&format!("{name}: {}", malformed(errors.len() - SHOWN_ERRORS, "more ")));
+        complain(&format!("{name}: {}", malformed(errors, SHOWN_ERRORS)));
     }
 }
 
@@ -253,9 +267,9 @@ fn read_text(name: String, bytes: Vec<u8>) -> Result<Input, Unreadable> {
     match text::read(&text) {
         Ok(read) => {
             let warnings = unused(&name, &read);
-            let Text { job, is_long, names, records, forms } = read;
+            let Text { bytes, is_long, names, records, forms } = read;
             let source = Some(Source { text, records });
-            Ok(Input { names, source, forms, warnings, ..Input::of(name, job, is_long) })
+            Ok(Input { names, source, forms, warnings, ..Input::of(name, bytes, is_long) })
         }
         Err(errors) => Err(Unreadable::Malformed { name, text, errors }),
     }
@@ -279,13 +293,10 @@ fn read_as(file: Option<&Path>, reading: Reading) -> Result<Input, Failure> {
 }
 
 /// Writes a long job as an ordinary one. A variable that was taken for it is named by what it stands for, whatever a line of the text says.
-fn binarized(mut input: Input) -> Result<Input, Failure> {
+fn binarized(input: Input) -> Result<Input, Failure> {
     let Some(long) = &input.long else { return Ok(input) };
-    match long::binarized(long) {
-        Ok(job) => {
-            input.names.name_tails(&long::tails(long, &job));
-            Ok(Input { job, ..input })
-        }
+    match long::ordinary(long, &input.names) {
+        Ok(Ordinary { job, names, fresh }) => Ok(Input { job, names, fresh, ..input }),
         Err(refusal) => Err(Failure::Refused { refusal, input: Box::new(input), format: Format::Text }),
     }
 }

@@ -1,10 +1,10 @@
 //! Answers as JSON, for other programs. The objects are described in the manual page.
-use crate::input::{Input, Unreadable};
+use crate::input::{self, Input, Unreadable};
 use crate::print::codes::kind;
 use crate::print::turns::Turns;
 use crate::refused;
 use ropeclover::listing::{Reason, Record};
-use ropeclover::text::{Names, TextError};
+use ropeclover::text::{self, Names, TextError};
 use ropeclover::{Explanation, Refusal, Report, CODES};
 use serde_json::{json, Map, Value};
 use std::io::{self, Write};
@@ -68,10 +68,17 @@ pub fn explanation(explanation: &Explanation, input: &Input, turns: Turns<'_>) -
     })
 }
 
+fn malformed(error: &TextError, names: &Names) -> Value {
+    let (line, message) = (error.span.line, error.problem.to_string());
+    json!({ "line": line, "message": message, "suggestion": input::suggestion(&error.problem, names) })
+}
+
 pub fn unreadable(unreadable: &Unreadable) -> Value {
-    let line = |error: &TextError| json!({ "line": error.span.line, "message": error.problem.to_string() });
     let lines: Vec<Value> = match unreadable {
-        Unreadable::Malformed { errors, .. } => errors.iter().map(line).collect(),
+        Unreadable::Malformed { text, errors, .. } => {
+            let names = text::names(text);
+            errors.iter().map(|error| malformed(error, &names)).collect()
+        }
         _ => vec![],
     };
     json!({ "unreadable": { "message": unreadable.to_string(), "lines": lines } })

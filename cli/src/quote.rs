@@ -11,10 +11,10 @@ use std::path::Path;
 /// The most of a line that is quoted, in bytes before and after the first mark.
 const WINDOW: usize = 100;
 
-/// The lines that marks point into.
+/// The text whose lines marks point into.
 pub struct Page<'a> {
     pub name: &'a str,
-    pub lines: Vec<&'a str>,
+    pub text: &'a str,
     /// The number that is shown for the first line.
     pub first_number: usize,
 }
@@ -85,7 +85,10 @@ pub fn visible_path(path: &Path) -> String {
 }
 
 /// A line as it is quoted.
-struct Quoted {
+struct Quoted<'a> {
+    /// Its index in the text.
+    index: usize,
+    line: &'a str,
     text: String,
     /// The part of the line that is shown.
     shown: Range<usize>,
@@ -98,37 +101,36 @@ fn boundary(line: &str, at: usize) -> usize {
     (0..=at.min(line.len())).rev().find(|at| line.is_char_boundary(*at)).unwrap_or(0)
 }
 
-impl Quoted {
-    fn new(line: &str, focus: usize, start: usize) -> Self {
+impl<'a> Quoted<'a> {
+    fn new((index, line): (usize, &'a str), focus: usize, start: usize) -> Self {
         let shown = boundary(line, focus.saturating_sub(WINDOW))..boundary(line, focus.saturating_add(WINDOW));
         let cut = |is_cut| if is_cut { "…" } else { "" };
         let text = format!("{}{}{}", cut(shown.start > 0), visible(&line[shown.clone()]), cut(shown.end < line.len()));
-        Quoted { text, shown, start }
+        Quoted { index, line, text, shown, start }
     }
 
     /// Where an offset of the line stands among the quoted lines.
-    fn place(&self, line: &str, at: usize) -> usize {
-        let at = boundary(line, at).clamp(self.shown.start, self.shown.end);
-        let before = visible(&line[self.shown.start..at]).len();
+    fn place(&self, at: usize) -> usize {
+        let at = boundary(self.line, at).clamp(self.shown.start, self.shown.end);
+        let before = visible(&self.line[self.shown.start..at]).len();
         self.start + before + if self.shown.start > 0 { '…'.len_utf8() } else { 0 }
     }
 }
 
-/// The quoted lines, from the first that is marked to the last.
+/// The lines that a message may show: those that are marked, and the one behind each, which is shown where it stands between two of them.
 struct Excerpt<'a> {
     page: &'a Page<'a>,
-    first: usize,
-    lines: Vec<Quoted>,
+    lines: Vec<Quoted<'a>>,
     text: String,
 }
 
 impl<'a> Excerpt<'a> {
     fn new(page: &'a Page<'a>, marks: &[Mark]) -> Self {
-        let first = marks.iter().map(|mark| mark.line).min().unwrap_or(0);
+        let mut excerpt = Excerpt { page, lines: Vec::new(), text: String::new() };
         let last = marks.iter().map(|mark| mark.line).max().unwrap_or(0);
-        let mut excerpt = Excerpt { page, first, lines: Vec::new(), text: String::new() };
-        for (at, line) in page.lines.iter().enumerate().take(last + 1).skip(first) {
-            let focus = marks.iter().find(|mark| mark.line == at).map_or(0, |mark| mark.range.start);
+        let is_near = |index: usize| marks.iter().any(|mark| index == mark.line || index == mark.line + 1);
+        for line in page.text.lines().enumerate().take(last + 1).filter(|(index, _)| is_near(*index)) {
+            let focus = marks.iter().find(|mark| mark.line == line.0).map_or(0, |mark| mark.range.start);
             let quoted = Quoted::new(line, focus, excerpt.text.len());
             excerpt.text.push_str(&quoted.text);
             excerpt.text.push('\n');
@@ -137,9 +139,14 @@ impl<'a> Excerpt<'a> {
         excerpt
     }
 
+    /// The quoted line of an index in the text.
+    fn quoted(&self, index: usize) -> Option<&Quoted<'a>> {
+        self.lines.iter().find(|quoted| quoted.index == index)
+    }
+
     fn label(&self, mark: &Mark) -> Option<Label<()>> {
-        let (line, quoted) = (self.page.lines.get(mark.line)?, self.lines.get(mark.line - self.first)?);
-        let range = quoted.place(line, mark.range.start)..quoted.place(line, mark.range.end);
+        let quoted = self.quoted(mark.line)?;
+        let range = quoted.place(mark.range.start)..quoted.place(mark.range.end);
         let label = if mark.is_primary { Label::primary((), range) } else { Label::secondary((), range) };
         Some(label.with_message(&mark.message))
     }
@@ -159,7 +166,8 @@ impl<'a> Files<'a> for Excerpt<'a> {
     }
 
     fn line_index(&'a self, (): (), byte: usize) -> Result<usize, Error> {
-        Ok(self.first + self.lines.partition_point(|line| line.start <= byte).saturating_sub(1))
+        let quoted = self.lines[..self.lines.partition_point(|line| line.start <= byte)].last();
+        Ok(quoted.map_or(0, |quoted| quoted.index))
     }
 
     fn line_number(&'a self, (): (), line: usize) -> Result<usize, Error> {
@@ -168,17 +176,15 @@ impl<'a> Files<'a> for Excerpt<'a> {
 
     fn column_number(&'a self, (): (), line: usize, byte: usize) -> Result<usize, Error> {
         let range = self.line_range((), line)?;
-        let (source, quoted) = (self.page.lines[line], &self.lines[line - self.first]);
         let shown = self.text[range.start..byte.clamp(range.start, range.end)].chars().count();
         // What is cut off before counts, and the sign that stands for it does not.
-        let cut = source[..quoted.shown.start].chars().count();
+        let cut = self.quoted(line).map_or(0, |quoted| quoted.line[..quoted.shown.start].chars().count());
         Ok(1 + shown + cut.saturating_sub(1))
     }
 
     fn line_range(&'a self, (): (), line: usize) -> Result<Range<usize>, Error> {
-        let max = self.first + self.lines.len();
-        let quoted = line.checked_sub(self.first).and_then(|at| self.lines.get(at));
-        let quoted = quoted.ok_or(Error::LineTooLarge { given: line, max })?;
+        let max = self.lines.last().map_or(0, |quoted| quoted.index);
+        let quoted = self.quoted(line).ok_or(Error::LineTooLarge { given: line, max })?;
         Ok(quoted.start..quoted.start + quoted.text.len() + 1)
     }
 }

@@ -1,9 +1,13 @@
 //! What a refusal means for the input: the lines that it speaks of, and what to mend.
 use crate::input::Input;
 use crate::quote::{self, Mark, Page};
+use ropeclover::format::Class;
 use ropeclover::long::{bad_field, class, production, LongRecord};
-use ropeclover::text::{long_spelling, spelling};
-use ropeclover::{show_refused, Refusal, FORM_SYMBOLS, JOB_BYTES};
+use ropeclover::text::{long_spelling, ordinal, spelling};
+use ropeclover::{
+    show_refused, Place, Refusal, BODY_SYMBOLS, FORM_SYMBOLS, JOB_BYTES, LONG_JOB_BYTES, RECORDS, RECORD_BYTES,
+    SYMBOLS, VARIABLES,
+};
 
 /// The words of a record that was read, by its number.
 fn spelled(input: &Input, number: usize) -> Option<Vec<String>> {
@@ -17,14 +21,14 @@ fn spelled(input: &Input, number: usize) -> Option<Vec<String>> {
 struct Lines<'a> {
     input: &'a Input,
     /// The spelled records of an input that has no text.
-    spelled: Vec<String>,
+    spelled: String,
 }
 
 impl<'a> Lines<'a> {
     fn new(input: &'a Input) -> Self {
         let spelled = match input.source {
-            Some(_) => Vec::new(),
-            None => (0..).map_while(|number| Some(spelled(input, number)?.join(" "))).collect(),
+            Some(_) => String::new(),
+            None => (0..).map_while(|number| Some(spelled(input, number)?.join(" ") + "\n")).collect(),
         };
         Lines { input, spelled }
     }
@@ -32,8 +36,8 @@ impl<'a> Lines<'a> {
     fn page(&self) -> Page<'_> {
         let name = &self.input.name;
         match &self.input.source {
-            Some(source) => Page { name, lines: source.text.lines().collect(), first_number: 1 },
-            None => Page { name, lines: self.spelled.iter().map(String::as_str).collect(), first_number: 0 },
+            Some(source) => Page { name, text: &source.text, first_number: 1 },
+            None => Page { name, text: &self.spelled, first_number: 0 },
         }
     }
 
@@ -73,9 +77,9 @@ impl<'a> Lines<'a> {
         self.whole(number).map(|(line, start, end)| Mark::secondary(line, start, end, message))
     }
 
-    /// The bytes of a record that was read.
-    fn bytes(&self, number: u64) -> LongRecord {
-        self.input.record(number as usize).unwrap_or_default()
+    /// The bytes of the record that was read from a place.
+    fn bytes(&self, place: Place) -> LongRecord {
+        self.input.record(place.record()).unwrap_or_default()
     }
 
     /// The number of the first record that is as it says.
@@ -86,7 +90,7 @@ impl<'a> Lines<'a> {
 
 /// The message at a field outside its class.
 fn field_message(record: LongRecord, field: usize) -> String {
-    let class = class(record[0], field).map_or("", |class| class.description());
+    let class = class(record[0], field).map_or_else(String::new, Class::description);
     let article = if matches!(record[0], b'E' | b'F' | b'I' | b'L' | b'S') { "an" } else { "a" };
     format!("field {field} of {article} {} record is {class}", record[0] as char)
 }
@@ -100,37 +104,50 @@ fn written_alike(one: &LongRecord, other: &LongRecord) -> bool {
 type Told = (String, Vec<Option<Mark>>);
 
 /// What is told of too many records. Of bytes, only so much was read as tells it.
-fn too_many_records(lines: &Lines<'_>, of_bytes: &str) -> Told {
-    let Some(source) = &lines.input.source else { return (of_bytes.into(), vec![]) };
-    let headline = format!("the text has {} records; a job has at most 4096", source.records.len());
-    (headline, vec![lines.record(JOB_BYTES / 4, "the 4097th record")])
+fn too_many_records(lines: &Lines<'_>, what: &str, most: usize) -> Told {
+    if lines.input.source.is_none() {
+        return (format!("the {what} has more than {most} bytes, {RECORDS} records"), vec![]);
+    }
+    let headline = format!("the text has {} records; a job has at most {RECORDS}", lines.input.record_count());
+    (headline, vec![lines.record(RECORDS, &format!("the {} record", ordinal(RECORDS + 1)))])
+}
+
+/// What is told of one record.
+fn told_of(lines: &Lines<'_>, place: Place, headline: &str, message: &str) -> Told {
+    (headline.into(), vec![lines.record(place.record(), message)])
+}
+
+/// What is told of a record and an earlier one that it goes with.
+fn told_of_two(lines: &Lines<'_>, places: (Place, usize), headline: &str, messages: (&str, &str)) -> Told {
+    let (later, earlier) = places;
+    (headline.into(), vec![lines.record(later.record(), messages.0), lines.earlier(earlier, messages.1)])
 }
 
 /// What is told of a long job that cannot be written.
 fn told_of_long(refusal: Refusal, lines: &Lines<'_>) -> Told {
-    let told = |headline: &str, record: u64, message| (headline.into(), vec![lines.record(record as usize, message)]);
     match refusal {
-        Refusal::WrittenTwice { record } => {
-            let earlier = lines.first(|other| written_alike(other, &lines.bytes(record)));
-            let marks = vec![lines.record(record as usize, "written again here"), lines.earlier(earlier, "the same")];
-            ("a record is written that stands already".into(), marks)
+        Refusal::WrittenTwice { place } => {
+            let earlier = lines.first(|other| written_alike(other, &lines.bytes(place)));
+            let headline = "a record is written that stands already";
+            told_of_two(lines, (place, earlier), headline, ("written again here", "the same"))
         }
-        Refusal::TooManyWritten { record } => {
-            told("a job has at most 256 rules", record, "the 257th rule is written for this record")
+        Refusal::TooManyWritten { place, most } => {
+            let message = format!("the {} rule is written for this record", ordinal(most + 1));
+            told_of(lines, place, &format!("a job has at most {most} rules"), &message)
         }
-        Refusal::TooFewVariables { record } => {
-            told("too few variables are free", record, "this takes more variables than are left")
+        Refusal::TooFewVariables { place } => {
+            told_of(lines, place, "too few variables are free", "this takes more variables than are left")
         }
-        Refusal::IllPadded { record } => told(
-            "a length is over 8, or a padding byte is not zero",
-            record,
-            "a length is 0 to 8, and the bytes past the body or the fields are 0",
+        Refusal::IllPadded { place } => told_of(
+            lines,
+            place,
+            &format!("a length is over {BODY_SYMBOLS}, or a padding byte is not zero"),
+            &format!("a length is 0 to {BODY_SYMBOLS}, and the bytes past the body or the fields are 0"),
         ),
-        Refusal::LongJobTooLong { .. } => {
-            too_many_records(lines, "the long job has more than 49152 bytes, 4096 records")
-        }
+        Refusal::LongJobTooLong { .. } => too_many_records(lines, "long job", LONG_JOB_BYTES),
         Refusal::WrittenTooLong { bytes } => {
-            (format!("the job written has {} records; a job has at most 4096", bytes / 4), vec![])
+            let records = bytes / RECORD_BYTES as u64;
+            (format!("the job written has {records} records; a job has at most {RECORDS}"), vec![])
         }
         other => (other.to_string(), vec![]),
     }
@@ -139,34 +156,34 @@ fn told_of_long(refusal: Refusal, lines: &Lines<'_>) -> Told {
 /// What is told of a refused job.
 fn told(refusal: Refusal, lines: &Lines<'_>) -> Told {
     match refusal {
-        Refusal::UnknownKind { record } => {
+        Refusal::UnknownKind { place } => {
             let takes_long = lines.input.long.is_some() || lines.input.source.is_some();
             let kinds = if takes_long { "E, U, P, T, I, F, S and L" } else { "E, U, P, T, I, F and S" };
             let message = format!("the kinds are {kinds}");
-            ("unknown kind of record".into(), vec![lines.word(record as usize, 0, message)])
+            ("unknown kind of record".into(), vec![lines.word(place.record(), 0, message)])
         }
-        Refusal::FieldOutsideClass { record } => {
-            let bytes = lines.bytes(record);
+        Refusal::FieldOutsideClass { place } => {
+            let bytes = lines.bytes(place);
             let field = bad_field(&bytes).unwrap_or(1);
             let message = field_message(bytes, field);
-            ("a field is outside its class".into(), vec![lines.word(record as usize, field, message)])
+            ("a field is outside its class".into(), vec![lines.word(place.record(), field, message)])
         }
-        Refusal::Repeated { record } => {
-            let earlier = lines.first(|other| *other == lines.bytes(record));
-            let marks = vec![lines.record(record as usize, "repeated here"), lines.earlier(earlier, "the same record")];
-            ("a record is repeated".into(), marks)
+        Refusal::Repeated { place } => {
+            let earlier = lines.first(|other| *other == lines.bytes(place));
+            told_of_two(lines, (place, earlier), "a record is repeated", ("repeated here", "the same record"))
         }
-        Refusal::Second { record } => {
-            let kind = lines.bytes(record)[0];
+        Refusal::Second { place } => {
+            let kind = lines.bytes(place)[0];
             let what = if kind == b'S' { "start symbol" } else { "initial state" };
             let earlier = lines.first(|other| other[0] == kind);
-            let marks = vec![lines.record(record as usize, "the second"), lines.earlier(earlier, "the first")];
-            (format!("there is one {what}, so one {} record", kind as char), marks)
+            let headline = format!("there is one {what}, so one {} record", kind as char);
+            told_of_two(lines, (place, earlier), &headline, ("the second", "the first"))
         }
-        Refusal::TooManyRules { record } => {
-            ("a job has at most 256 rules".into(), vec![lines.record(record as usize, "the 257th rule")])
+        Refusal::TooManyRules { place, most } => {
+            let message = format!("the {} rule", ordinal(most + 1));
+            told_of(lines, place, &format!("a job has at most {most} rules"), &message)
         }
-        Refusal::JobTooLong { .. } => too_many_records(lines, "the job has more than 16384 bytes, 4096 records"),
+        Refusal::JobTooLong { .. } => too_many_records(lines, "job", JOB_BYTES),
         Refusal::NoStart { .. } => ("no S record says which variable is the start symbol".into(), vec![]),
         Refusal::NoInitial { .. } => ("no I record says which state is the initial one".into(), vec![]),
         other => told_of_long(other, lines),
@@ -181,10 +198,11 @@ fn looks_like_text(job: &[u8]) -> bool {
 
 /// The bytes of the record that is refused, as a note: of a job the part that the library shows.
 fn bytes_note(refusal: Refusal, input: &Input) -> Option<String> {
-    let number = refusal.record().filter(|_| input.source.is_none())?;
+    let place = refusal.record_place().filter(|_| input.source.is_none())?;
+    let number = place.record();
     let shown = if input.long.is_some() { input.record_bytes(number)? } else { show_refused(&input.job) };
     let bytes: String = shown.iter().map(|byte| format!(" {byte:02x}")).collect();
-    Some(format!("record {number}, counted from 0: bytes{bytes} at offset {}", shown.len() * number))
+    Some(format!("record {number}, counted from 0: bytes{bytes} at offset {}", place.offset()))
 }
 
 /// What else helps to mend a job.
@@ -193,9 +211,10 @@ fn notes(refusal: Refusal, input: &Input) -> Vec<String> {
     match refusal {
         Refusal::NoStart { .. } => notes.push("a record 'S 0' makes variable 0 the start symbol".into()),
         Refusal::NoInitial { .. } => notes.push("a record 'I 0' makes state 0 the initial one".into()),
-        Refusal::TooFewVariables { .. } => notes.push(
-            "free are the variables of 0 to 31 that no record names; a body of n symbols, n over 2, takes n - 2 of them".into(),
-        ),
+        Refusal::TooFewVariables { .. } => notes.push(format!(
+            "free are the variables of 0 to {} that no record names; a body of n symbols, n over 2, takes n - 2 of them",
+            VARIABLES - 1
+        )),
         _ => {}
     }
     if input.source.is_none() && looks_like_text(input.bytes()) {
@@ -212,11 +231,11 @@ fn form_mark(refusal: Refusal, form: &[String]) -> Option<Mark> {
         Refusal::NoSymbol { position } => {
             let at = position as usize;
             let end = start(at) + form.get(at)?.len();
-            Some(Mark::primary(0, start(at), end, "a symbol is 0 to 63"))
+            Some(Mark::primary(0, start(at), end, format!("a symbol is 0 to {}", SYMBOLS - 1)))
         }
         Refusal::FormTooLong { .. } => {
             let end = start(FORM_SYMBOLS) + form.get(FORM_SYMBOLS)?.len();
-            Some(Mark::primary(0, start(FORM_SYMBOLS), end, "the 65th symbol"))
+            Some(Mark::primary(0, start(FORM_SYMBOLS), end, format!("the {} symbol", ordinal(FORM_SYMBOLS + 1))))
         }
         _ => None,
     }
@@ -227,7 +246,7 @@ pub fn explain(refusal: Refusal, input: &Input) {
     let code = format!("refused {} at {}", refusal.number(), refusal.place());
     if let Some(mark) = form_mark(refusal, &input.form) {
         let form = input.form.join(" ");
-        let page = Page { name: "form", lines: vec![&form], first_number: 1 };
+        let page = Page { name: "form", text: &form, first_number: 1 };
         return quote::show(&page, Some(&code), &refusal.to_string(), &[mark], &[]);
     }
     let lines = Lines::new(input);

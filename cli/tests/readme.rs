@@ -1,10 +1,53 @@
 //! The README's examples print what it says.
 mod support;
 
+use std::path::{Path, PathBuf};
 use std::process::Command;
 use support::{file, folder, run, Ran, COMMAND, MEMORY_TEXT, RADIO_TEXT};
 
 const README: &str = include_str!("../../README.md");
+
+/// The example with shared tails.
+const TS2000_TEXT: &str = include_str!("../../examples/ts2000.txt");
+
+/// A folder with the examples, as a checkout has them and as they are installed beside the page.
+fn with_examples(test: &str) -> PathBuf {
+    let folder = folder(test);
+    std::fs::create_dir(folder.join("examples")).unwrap();
+    for (name, text) in [("radio.txt", RADIO_TEXT), ("memory.txt", MEMORY_TEXT), ("ts2000.txt", TS2000_TEXT)] {
+        std::fs::write(folder.join("examples").join(name), text).unwrap();
+    }
+    folder
+}
+
+/// What a line does that is typed in a folder, with the command in PATH.
+fn typed(line: &str, folder: &Path) -> Ran {
+    let path = format!("{}:{}", Path::new(COMMAND).parent().unwrap().display(), std::env::var("PATH").unwrap());
+    Ran::of(Command::new("bash").args(["-c", line]).env("PATH", path).current_dir(folder).output().unwrap())
+}
+
+/// Each line that shows the command works as it is typed.
+#[test]
+fn the_lines_as_typed() {
+    let folder = with_examples("readme-lines");
+    let lines: Vec<&str> = README.lines().filter_map(|line| line.strip_prefix("    ")).collect();
+    let lines = lines.into_iter().filter(|line| line.starts_with("ropeclover ") && !line.starts_with("ropeclover: "));
+    let ran: Vec<(&str, Ran)> = lines.map(|line| (line, typed(line, &folder))).collect();
+    ran.iter().for_each(|(line, ran)| assert_eq!(ran.status, Some(0), "{line}: {}", ran.stderr));
+    // The three that show the levels come first.
+    let words: Vec<&str> = ran.iter().map(|(line, _)| line.split(' ').nth(1).unwrap()).collect();
+    assert_eq!(words[..3], ["report", "explain", "nightly"]);
+    assert!(words.len() >= 5, "{words:?}");
+}
+
+/// What it does for each level comes before all else.
+#[test]
+fn the_order() {
+    let place = |part: &str| README.find(part).unwrap_or_else(|| panic!("{part}"));
+    let parts = ["**Counter**", "**Desk**", "**Line**", "## Install", "## Reading the answers", "## What is proved"];
+    assert!(parts.windows(2).all(|pair| place(pair[0]) < place(pair[1])));
+    assert!(README[..place("**Counter**")].matches("\n## ").count() == 1);
+}
 
 /// The text as the README shows it, indented by four blanks.
 fn indented(text: &str) -> String {
@@ -60,25 +103,79 @@ fn what_a_clean_copy_leaves_out() {
 }
 
 /// The nightly line as it is typed, twice, where the examples are. By hand: "M" digit "T88" leads over five given transitions, of which digit stands on
-/// one, so six records; M, a digit and a tone command have (0 34 1), (1 35 2), the letter's, and the tone's eight from state 2 on.
+/// one, so six records; M, a digit and a tone command have (0 34 1), (1 35 2), the letter's, and the tone's eight from state 2 on; "FA" and eleven digits
+/// with their end have the thirteen given ones, eleven digits and eleven tails.
 #[test]
 fn the_nightly_line() {
-    let line = README.lines().find_map(|line| line.strip_prefix("    ropeclover nightly ")).unwrap();
-    let folder = folder("readme-nightly");
-    std::fs::create_dir(folder.join("examples")).unwrap();
-    std::fs::write(folder.join("examples/radio.txt"), RADIO_TEXT).unwrap();
-    std::fs::write(folder.join("examples/memory.txt"), MEMORY_TEXT).unwrap();
+    let line = README.lines().find(|line| line.starts_with("    ropeclover nightly ")).unwrap();
+    let folder = with_examples("readme-nightly");
+    let expected = "examples/memory.txt: alike: states 6, examined 12, joins 4, start yes, empty no, growing no, useless symbols 0\n\
+        examples/memory.txt: form \"M\" digit \"T\" \"0-9\" \"0-9\": accepted yes, records 6\n\
+        examples/radio.txt: alike: states 6, examined 20, joins 5, start yes, empty no, growing yes, useless symbols 2\n\
+        examples/radio.txt: form memory-letter \"0-9\" tone: accepted yes, records 11\n\
+        examples/ts2000.txt: alike: states 14, examined 37, joins 12, start yes, empty no, growing no, useless symbols 0\n\
+        examples/ts2000.txt: form \"FA\" d11-end: accepted yes, records 35\n";
     for _ in 0..2 {
-        let line = format!("{COMMAND} nightly {line}");
-        let ran = Ran::of(Command::new("bash").args(["-c", &line]).current_dir(&folder).output().unwrap());
-        ran.prints(
-            "examples/memory.txt: alike: states 6, examined 12, joins 4, start yes, empty no, growing no, useless symbols 0\n\
-            examples/memory.txt: form \"M\" digit \"T\" \"0-9\" \"0-9\": accepted yes, records 6\n\
-            examples/radio.txt: alike: states 6, examined 20, joins 5, start yes, empty no, growing yes, useless symbols 2\n\
-            examples/radio.txt: form memory-letter \"0-9\" tone: accepted yes, records 11\n",
-        );
+        typed(line, &folder).prints(expected);
     }
+    assert!(README.contains(&indented(expected)));
     assert!(folder.join("last.seen").exists());
+}
+
+/// The variables of a text that are useful.
+fn useful_variables(text: &str) -> usize {
+    let codes = run(&["codes", "--numbers"], text.as_bytes()).stdout;
+    codes.lines().take(32).filter(|line| line.ends_with(" 1")).count()
+}
+
+/// The words and the numbers of digits of the commands that set something.
+fn settings() -> Vec<(&'static str, usize)> {
+    let rules = TS2000_TEXT.lines().filter_map(|line| line.strip_prefix("P setting "));
+    let setting = |rule: &'static str| {
+        let (word, tail) = rule.split_once(' ').unwrap();
+        (word, tail.strip_prefix('d').unwrap().strip_suffix("-end").unwrap().parse().unwrap())
+    };
+    rules.map(setting).collect()
+}
+
+#[test]
+fn shared_tails_by_hand() {
+    let settings = settings();
+    let words: std::collections::BTreeSet<&str> = settings.iter().map(|(word, _)| *word).collect();
+    assert_eq!((settings.len(), words.len(), useful_variables(TS2000_TEXT)), (28, 28, 15));
+    assert_eq!(useful(TS2000_TEXT), format!("useful: {}", 15 + 28 + 2));
+    // As a long rule, a word, n digits and the end have n + 2 symbols, so n tails.
+    let tails: usize = settings.iter().map(|(_, digits)| digits).sum();
+    let too_long = settings.iter().filter(|(_, digits)| digits + 2 > 8).count();
+    assert_eq!((tails, too_long), (107, 4));
+    let words = README.split_whitespace().collect::<Vec<&str>>().join(" ");
+    for part in [
+        "`examples/ts2000.txt` has 28 commands",
+        "the 28 commands take 15 variables: eleven tails, `command`, `setting`, `reading` and `digit`",
+        "they would take 107 for their tails alone, and four have bodies of more than eight symbols",
+    ] {
+        assert!(words.contains(part), "{part}");
+    }
+    for rule in ["P d1-end digit \";\"", "P d2-end digit d1-end", "P d3-end digit d2-end", "P setting \"FA\" d11-end"] {
+        assert!(README.contains(&format!("    {rule}\n")) && TS2000_TEXT.contains(&format!("{rule}\n")), "{rule}");
+    }
+}
+
+/// The same commands as long rules, as far as they have at most eight symbols: each takes tails of its own, and they do not fit.
+#[test]
+fn tails_of_long_rules_are_not_shared() {
+    let text = |commands: &[(&str, usize)]| {
+        let names: String = (32..).zip(commands).map(|(number, (word, _))| format!("name {number} {word}\n")).collect();
+        let rule = |(word, digits): &(&str, usize)| format!("L 0 {word}{} 61\n", " 60".repeat(*digits));
+        format!("{names}S 0\nI 0\n{}", commands.iter().map(rule).collect::<String>())
+    };
+    let short: Vec<(&str, usize)> = settings().into_iter().filter(|(_, digits)| digits + 2 <= 8).collect();
+    let fits = |count: usize| run(&["codes"], text(&short[..count]).as_bytes()).status == Some(0);
+    let taken = |count: usize| short[..count].iter().map(|(_, digits)| digits).sum::<usize>();
+    // The start symbol is one of the 32 variables.
+    let most = (0..=short.len()).rev().find(|count| taken(*count) <= 31).unwrap();
+    assert!(most < short.len() && fits(most) && !fits(most + 1));
+    assert_eq!(useful_variables(&text(&short[..most])), 1 + taken(most));
 }
 
 /// The first line of the codes of a text.
@@ -112,7 +209,7 @@ fn about_twenty_commands_fit() {
         text += &format!("P {memory} {m} {setting}\nP {setting} 2 {tone}\n");
     }
     assert_eq!(useful(&text), format!("useful: {}", 32 + 21 + 1));
-    assert!(README.contains("So about twenty\nsuch commands fit"));
+    assert!(README.contains("So about twenty\nsuch commands fit, more where they share their tails"));
 }
 
 /// Every file that the README names in this repository is there, but for what a build makes.

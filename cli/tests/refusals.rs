@@ -213,14 +213,30 @@ fn refusals_as_json() {
 
 #[test]
 fn malformed_text_as_json() {
-    let ran = run(&["codes", "--format", "json"], b"S 0\nfoo\nname 64 x\n");
+    let ran = run(&["codes", "--format", "json"], b"name 1 memory\nfoo\nname 64 x\nS memry\n");
     ran.refuses(
         concat!(
-            "{\"unreadable\":{\"lines\":[{\"line\":2,\"message\":\"'foo' is no kind of record (one letter), nor 'name', 'state' or 'form'\"},",
-            "{\"line\":3,\"message\":\"a symbol is a number from 0 to 63\"}],\"message\":\"<stdin>: 2 lines are malformed\"}}\n"
+            "{\"unreadable\":{\"lines\":[",
+            "{\"line\":2,\"message\":\"'foo' is no kind of record (one letter), nor 'name', 'state' or 'form'\",\"suggestion\":null},",
+            "{\"line\":3,\"message\":\"a symbol is a number from 0 to 63\",\"suggestion\":null},",
+            "{\"line\":4,\"message\":\"'memry' is no variable: neither the name of one nor a number from 0 to 31\",\"suggestion\":\"memory\"}",
+            "],\"message\":\"<stdin>: 3 lines are malformed\"}}\n"
         ),
-        &["<stdin>:2:1", "<stdin>:3:6"],
+        &["<stdin>:2:1", "<stdin>:3:6", "<stdin>:4:3", "did you mean 'memory'?"],
     );
+}
+
+/// Two lines that belong together are quoted however far apart they stand, and of what is between them only a single line.
+#[test]
+fn lines_far_apart() {
+    let text = |between: usize| format!("name 0 a\n{}name 0 b\n", "# between\n".repeat(between));
+    let first = "name 0 a\n  | -------- first here\n";
+    for (between, shown) in [(0, "2 | name 0 b\n"), (1, "2 | # between\n3 | name 0 b\n"), (2, "  .\n4 | name 0 b\n")] {
+        run(&["report"], text(between).as_bytes()).refuses("", &[first, shown, "^\n"]);
+    }
+    let ran = run(&["report"], text(100_000).as_bytes());
+    ran.refuses("", &["<stdin>:100002:6\n", "1 | name 0 a\n", "-------- first here\n", "100002 | name 0 b\n"]);
+    assert!(!ran.stderr.contains("between"), "{}", ran.stderr);
 }
 
 #[test]

@@ -186,10 +186,33 @@ fn long_input_is_said_to_be_longer_than_a_job() {
     run(&["report"], text.as_bytes()).refuses("", &["<stdin>: the text has more than 16777216 bytes"]);
 }
 
-/// Runs the command by a shell that lets it have 1 GB of memory.
-fn within_a_gigabyte(words: &str) -> Ran {
-    let line = format!("ulimit -v 1000000 && exec {COMMAND} {words}");
+/// Runs the command by a shell that lets it have so many KB of memory.
+fn within(memory: usize, words: &str) -> Ran {
+    let line = format!("ulimit -v {memory} && exec {COMMAND} {words}");
     Ran::of(Command::new("bash").args(["-c", &line]).output().unwrap())
+}
+
+fn within_a_gigabyte(words: &str) -> Ran {
+    within(1_000_000, words)
+}
+
+/// Texts of 16 MB with millions of lines that are malformed, or of records: the longest text with little more memory than its own. Of malformed lines
+/// the first thousand are told.
+#[test]
+fn long_texts_within_little_memory() {
+    for (line, read) in [("foo", 0), ("U 0 \"", 0), ("name 1 a", 1)] {
+        let text = format!("<(yes '{line}' | head -c 16000000)");
+        let ran = within(100_000, &format!("report --format json {text}"));
+        let message = "at least 1000 lines are malformed\"}}\n";
+        assert!(ran.status == Some(1) && ran.stdout.ends_with(message), "{line}: {}", ran.stderr);
+        assert_eq!(ran.stdout.matches("\"line\":").count(), 1_000);
+        assert!(ran.stdout.contains(&format!("\"line\":{},", 1_000 + read)));
+        ran.says(&["at least 990 more lines are malformed\n"]);
+    }
+    within(200_000, "report <(yes 'S 0' | head -c 16000000)").refuses(
+        "refused 2 at 16000000\n",
+        &["the text has 4000000 records; a job has at most 4096\n", "4097 | S 0\n", "^^^ the 4097th record\n"],
+    );
 }
 
 /// Devices that give zeros without end, and a text without end: no more is read than tells that it is too long.

@@ -136,10 +136,9 @@ fn options_are_offered_behind_a_hyphen() {
     assert!(offered(&["ropeclover", "help", ""]).contains("report codes explain"));
 }
 
-/// An interactive bash, whose user types a tab where nothing stands yet: the only file is offered.
-#[test]
-fn files_are_offered_where_nothing_is_typed() {
-    let folder = folder("complete");
+/// What an interactive bash makes of a line with tabs, in a folder whose only file is radio.txt.
+fn typed(test: &str, line: &str) -> String {
+    let folder = folder(test);
     std::fs::write(folder.join("radio.txt"), b"").unwrap();
     let mut child = Command::new("timeout")
         .args(["60", "script", "--quiet", "--return", "--command", "bash --norc --noprofile -i", "/dev/null"])
@@ -149,12 +148,29 @@ fn files_are_offered_where_nothing_is_typed() {
         .stdout(Stdio::piped())
         .spawn()
         .unwrap();
-    let typed = format!(
-        "source <({COMMAND} completions bash); ropeclover() {{ echo \"taken: $*.\"; }}\nropeclover report \t\nexit\n"
-    );
+    let typed =
+        format!("source <({COMMAND} completions bash); ropeclover() {{ echo \"taken: $*.\"; }}\n{line}\nexit\n");
     let mut keyboard = child.stdin.take().unwrap();
     keyboard.write_all(typed.as_bytes()).unwrap();
     let ran = Ran::of(child.wait_with_output().unwrap());
     drop(keyboard);
-    assert!(ran.stdout.contains("taken: report radio.txt."), "{}", ran.stdout);
+    ran.stdout
+}
+
+/// A tab where nothing stands yet: the only file is offered.
+#[test]
+fn files_are_offered_where_nothing_is_typed() {
+    let shown = typed("complete", "ropeclover report \t");
+    assert!(shown.contains("taken: report radio.txt."), "{shown}");
+}
+
+/// A tab where a number or a form is due: no file is offered. Behind the baseline's option one is.
+#[test]
+fn files_are_offered_for_files_alone() {
+    for option in ["--steps", "--seed", "--jobs", "--form"] {
+        assert_eq!(offered(&["ropeclover", "nightly", option, ""]), "\n", "{option}");
+    }
+    let options = "nightly --steps r\t --seed r\t --jobs r\t --form r\t --baseline r\t";
+    let shown = typed("complete-options", &format!("ropeclover {options}"));
+    assert!(shown.contains("taken: nightly --steps r --seed r --jobs r --form r --baseline radio.txt."), "{shown}");
 }

@@ -1,6 +1,7 @@
 //! Speed, as ratios in one run: the library against a plain Rust worklist over the same byte table with an index of pending rows, and against
 //! gringo and SWI-Prolog where they are installed, which compute the same closure as Datalog; the bit table against the table of bytes and against a
-//! plain Rust machine over words; the count of states by itself against a plain loop. Results are checked equal before a time is shown.
+//! plain Rust machine over words; explain by a workspace against the call alone; the count of states by itself against a plain loop. Results are checked
+//! equal before a time is shown.
 #[path = "support/datalog.rs"]
 mod datalog;
 #[path = "support/jobs.rs"]
@@ -15,10 +16,8 @@ mod words;
 #[path = "support/worklist.rs"]
 mod worklist;
 
-use ropeclover::{
-    advance, advance_bits, ask, ask_bits, done_count, explain, show_refused, start, start_bits, verdicts,
-};
-use ropeclover::{Advanced, BIT_TABLE_BYTES, HALF_BYTES, REASONS};
+use ropeclover::{advance, ask, bits, explain, show_refused, start, verdicts};
+use ropeclover::{Advanced, Workspace, BIT_TABLE_BYTES, HALF_BYTES, LISTING_BYTES, REASONS, TABLE_BYTES};
 use std::hint::black_box;
 use std::time::{Duration, Instant};
 
@@ -80,8 +79,7 @@ fn start_form(job: &[u8]) -> [u8; 1] {
 }
 
 fn bench(name: &str, job: &[u8]) {
-    let mut table = vec![0; 65_536];
-    let mut reasons = vec![0; 32_768];
+    let (mut table, mut reasons) = (vec![0; TABLE_BYTES], vec![0; REASONS]);
     println!("{name}: {} records", job.len() / 4);
     row("checks alone (show)", time(|| show_refused(job).len()).1, None);
     row("start", time(|| start(job, &mut table, &mut reasons).unwrap()).1, None);
@@ -108,8 +106,7 @@ fn bench(name: &str, job: &[u8]) {
     let one = advance(job, &mut table, &mut reasons, 1).unwrap();
     let by_one = time(|| advance(job, &mut table, &mut reasons, 1).unwrap()).1;
     row("advance by 1", by_one, None);
-    let mut listing = vec![0; 8 * 65_536];
-    row("explain", time(|| explain(job, &mut table, &mut reasons, &form, &mut listing).unwrap()).1, None);
+    bench_explain(job);
     let mut codes = [0; 64];
     row("verdicts", time(|| verdicts(job, &mut table, &mut codes).unwrap()).1, None);
     let bytes = Bytes {
@@ -125,6 +122,20 @@ fn bench(name: &str, job: &[u8]) {
     bench_bits(job, &bytes);
 }
 
+/// Explain on lent memory, and by a workspace, which also reads the listing and finds the sequence of states.
+fn bench_explain(job: &[u8]) {
+    let form = start_form(job);
+    let (mut table, mut reasons, mut listing) = (vec![0; TABLE_BYTES], vec![0; REASONS], vec![0; LISTING_BYTES]);
+    let (explained, taken) = time(|| explain(job, &mut table, &mut reasons, &form, &mut listing).unwrap());
+    row("explain", taken, None);
+    let mut workspace = Workspace::new();
+    let (explanation, by_workspace) = time(|| workspace.explain(job, &form).unwrap());
+    let found = (explanation.accepted, explanation.records.len());
+    assert_eq!(found, (explained.accepted, explained.records), "the workspace explains another thing");
+    assert!(workspace.table() == table && workspace.reasons() == reasons, "the workspace leaves different memory");
+    row("explain by a workspace", by_workspace, Some(("the call", taken)));
+}
+
 /// Whether a finished bit table says of each place what a finished table of bytes says.
 fn says_the_same(bits: &[u8], table: &[u8]) -> bool {
     let has = |half: &[u8], place: usize| half[place / 8] >> (place % 8) & 1 == 1;
@@ -136,8 +147,8 @@ fn says_the_same(bits: &[u8], table: &[u8]) -> bool {
 fn bench_bits(job: &[u8], bytes: &Bytes) {
     let (mut bits, mut reasons) = (vec![0; BIT_TABLE_BYTES], vec![0; REASONS]);
     let (found, taken) = time(|| {
-        start_bits(job, &mut bits, &mut reasons).unwrap();
-        advance_bits(job, &mut bits, &mut reasons, u64::MAX).unwrap()
+        bits::start(job, &mut bits, &mut reasons).unwrap();
+        bits::advance(job, &mut bits, &mut reasons, u64::MAX).unwrap()
     });
     assert_eq!(found, bytes.found, "bits and bytes differ");
     assert!(says_the_same(&bits, &bytes.table) && reasons == bytes.reasons, "bits and bytes leave different memory");
@@ -153,15 +164,15 @@ fn bench_bits(job: &[u8], bytes: &Bytes) {
 /// The other calls, on a finished bit table and its reasons.
 fn bench_bits_calls(job: &[u8], bytes: &Bytes, bits: &mut [u8], reasons: &mut [u32]) {
     let form = start_form(job);
-    let (accepted, asked) = time(|| ask_bits(job, bits, &form).unwrap());
+    let (accepted, asked) = time(|| bits::ask(job, bits, &form).unwrap());
     assert_eq!(accepted, bytes.accepted, "bits and bytes answer differently");
     row("bits: ask on the finished table", asked, Some(("bytes", bytes.ask)));
-    let (count, counted) = time(|| done_count(black_box(bits)).unwrap());
+    let (count, counted) = time(|| bits::done_count(black_box(bits)).unwrap());
     assert_eq!(count, bytes.found.steps, "the done count is not the number of steps");
     row("bits: done count", counted, None);
-    start_bits(job, bits, reasons).unwrap();
-    assert_eq!(advance_bits(job, bits, reasons, 1), Ok(bytes.one), "the first steps differ");
-    let by_one = time(|| advance_bits(job, bits, reasons, 1).unwrap()).1;
+    bits::start(job, bits, reasons).unwrap();
+    assert_eq!(bits::advance(job, bits, reasons, 1), Ok(bytes.one), "the first steps differ");
+    let by_one = time(|| bits::advance(job, bits, reasons, 1).unwrap()).1;
     row("bits: advance by 1", by_one, Some(("bytes", bytes.by_one)));
 }
 

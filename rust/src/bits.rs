@@ -1,12 +1,17 @@
-//! The library's functions on a bit table: two bits for each transition in place of a byte.
-use crate::{ffi, Advanced, Refusal};
-
-fn refused(answer: &[u64]) -> Result<(), Refusal> {
-    match answer[0] {
-        0 => Ok(()),
-        number => Err(Refusal::of_bits(number, answer[1])),
-    }
-}
+//! The library's functions on a bit table: two bits for each transition in place of a byte, so a quarter of the memory.
+//!
+//! ```
+//! use ropeclover::{bits, BIT_TABLE_BYTES, REASONS};
+//!
+//! let job = ropeclover::text::assemble("S 0\nU 0 32\nI 0\nF 1\nT 0 32 1\n").unwrap();
+//! let (mut table, mut reasons) = (vec![0; BIT_TABLE_BYTES], vec![0; REASONS]);
+//! bits::start(&job, &mut table, &mut reasons).unwrap();
+//! while !bits::advance(&job, &mut table, &mut reasons, 100).unwrap().finished {}
+//! assert!(bits::ask(&job, &table, &[0]).unwrap());
+//! assert_eq!(bits::done_count(&table), Ok(2));
+//! ```
+use crate::calls::{advanced, answered};
+use crate::{ffi, Advanced, Operation, Refusal};
 
 /// Writes the bit table and the reasons that the job starts from, and returns its number of states.
 ///
@@ -22,29 +27,16 @@ fn refused(answer: &[u64]) -> Result<(), Refusal> {
 ///
 /// let job = ropeclover::text::assemble("S 0\nU 0 32\nI 0\nF 1\nT 0 32 1\n").unwrap();
 /// let (mut bits, mut reasons) = (vec![0; BIT_TABLE_BYTES], vec![0; REASONS]);
-/// assert_eq!(ropeclover::start_bits(&job, &mut bits, &mut reasons), Ok(2));
+/// assert_eq!(ropeclover::bits::start(&job, &mut bits, &mut reasons), Ok(2));
 /// // The given transition (0, 32, 1) is pending: its place 1025 is bit 1 of byte 128.
 /// assert_eq!(bits[128], 0b10);
 /// ```
 ///
 /// # Errors
 /// Refusals 10 (bit table, reasons) and 1 to 9; nothing is written then.
-pub fn start_bits(job: &[u8], bits: &mut [u8], reasons: &mut [u32]) -> Result<usize, Refusal> {
-    let mut answer = [0u64; 3];
-    // SAFETY: each pointer comes with its slice's length, the slices are disjoint, and `answer` has the three numbers that are written.
-    unsafe {
-        ffi::ropeclover_start_bits(
-            job.as_ptr(),
-            job.len(),
-            bits.as_mut_ptr(),
-            bits.len(),
-            reasons.as_mut_ptr(),
-            reasons.len(),
-            answer.as_mut_ptr(),
-        )
-    };
-    refused(&answer)?;
-    Ok(answer[2] as usize)
+pub fn start(job: &[u8], bits: &mut [u8], reasons: &mut [u32]) -> Result<usize, Refusal> {
+    let [_, _, states] = answered(Operation::Bits, ffi::ropeclover_start_bits(job, bits, reasons))?;
+    Ok(states as usize)
 }
 
 /// Makes at most `n` steps on a bit table, whatever it holds.
@@ -54,32 +46,17 @@ pub fn start_bits(job: &[u8], bits: &mut [u8], reasons: &mut [u32]) -> Result<us
 ///
 /// let job = ropeclover::text::assemble("S 0\nU 0 32\nI 0\nF 1\nT 0 32 1\n").unwrap();
 /// let (mut bits, mut reasons) = (vec![0; BIT_TABLE_BYTES], vec![0; REASONS]);
-/// ropeclover::start_bits(&job, &mut bits, &mut reasons).unwrap();
-/// assert!(!ropeclover::advance_bits(&job, &mut bits, &mut reasons, 1).unwrap().finished);
+/// ropeclover::bits::start(&job, &mut bits, &mut reasons).unwrap();
+/// assert!(!ropeclover::bits::advance(&job, &mut bits, &mut reasons, 1).unwrap().finished);
 /// // The given transition is done, and (0, 0, 1), of place 1, is pending.
 /// assert_eq!((bits[128], bits[HALF_BYTES + 128], bits[0]), (0, 0b10, 0b10));
-/// assert!(ropeclover::advance_bits(&job, &mut bits, &mut reasons, 1).unwrap().finished);
+/// assert!(ropeclover::bits::advance(&job, &mut bits, &mut reasons, 1).unwrap().finished);
 /// ```
 ///
 /// # Errors
 /// Refusals 10 (bit table, reasons) and 1 to 9; nothing is written then.
-pub fn advance_bits(job: &[u8], bits: &mut [u8], reasons: &mut [u32], n: u64) -> Result<Advanced, Refusal> {
-    let mut answer = [0u64; 5];
-    // SAFETY: as in `start_bits`; five numbers are written.
-    unsafe {
-        ffi::ropeclover_advance_bits(
-            job.as_ptr(),
-            job.len(),
-            bits.as_mut_ptr(),
-            bits.len(),
-            reasons.as_mut_ptr(),
-            reasons.len(),
-            n,
-            answer.as_mut_ptr(),
-        )
-    };
-    refused(&answer)?;
-    Ok(Advanced { finished: answer[2] == 1, steps: answer[3], meetings: answer[4] })
+pub fn advance(job: &[u8], bits: &mut [u8], reasons: &mut [u32], n: u64) -> Result<Advanced, Refusal> {
+    advanced(Operation::Bits, ffi::ropeclover_advance_bits(job, bits, reasons, n))
 }
 
 /// Whether a form is accepted on a bit table: it leads from the initial state to a final one over the done transitions. What it means on a table
@@ -90,30 +67,17 @@ pub fn advance_bits(job: &[u8], bits: &mut [u8], reasons: &mut [u32], n: u64) ->
 ///
 /// let job = ropeclover::text::assemble("S 0\nU 0 32\nI 0\nF 1\nT 0 32 1\n").unwrap();
 /// let (mut bits, mut reasons) = (vec![0; BIT_TABLE_BYTES], vec![0; REASONS]);
-/// ropeclover::start_bits(&job, &mut bits, &mut reasons).unwrap();
-/// ropeclover::advance_bits(&job, &mut bits, &mut reasons, u64::MAX).unwrap();
-/// assert_eq!(ropeclover::ask_bits(&job, &bits, &[0]), Ok(true));
-/// assert_eq!(ropeclover::ask_bits(&job, &bits, &[33]), Ok(false));
+/// ropeclover::bits::start(&job, &mut bits, &mut reasons).unwrap();
+/// ropeclover::bits::advance(&job, &mut bits, &mut reasons, u64::MAX).unwrap();
+/// assert_eq!(ropeclover::bits::ask(&job, &bits, &[0]), Ok(true));
+/// assert_eq!(ropeclover::bits::ask(&job, &bits, &[33]), Ok(false));
 /// ```
 ///
 /// # Errors
 /// Refusals 10 (bit table), 1 to 9, 12 and 11.
-pub fn ask_bits(job: &[u8], bits: &[u8], form: &[u8]) -> Result<bool, Refusal> {
-    let mut answer = [0u64; 3];
-    // SAFETY: as in `start_bits`; the bit table is only read.
-    unsafe {
-        ffi::ropeclover_ask_bits(
-            job.as_ptr(),
-            job.len(),
-            bits.as_ptr(),
-            bits.len(),
-            form.as_ptr(),
-            form.len(),
-            answer.as_mut_ptr(),
-        )
-    };
-    refused(&answer)?;
-    Ok(answer[2] == 1)
+pub fn ask(job: &[u8], bits: &[u8], form: &[u8]) -> Result<bool, Refusal> {
+    let [_, _, accepted] = answered(Operation::Bits, ffi::ropeclover_ask_bits(job, bits, form))?;
+    Ok(accepted == 1)
 }
 
 /// The number of done transitions of a bit table: the ones in its done half.
@@ -122,15 +86,12 @@ pub fn ask_bits(job: &[u8], bits: &[u8], form: &[u8]) -> Result<bool, Refusal> {
 /// let mut bits = vec![0; ropeclover::BIT_TABLE_BYTES];
 /// bits[0] = 0xff;
 /// bits[ropeclover::HALF_BYTES] = 0b101;
-/// assert_eq!(ropeclover::done_count(&bits), Ok(2));
+/// assert_eq!(ropeclover::bits::done_count(&bits), Ok(2));
 /// ```
 ///
 /// # Errors
 /// Refusal 10 (bit table).
 pub fn done_count(bits: &[u8]) -> Result<u64, Refusal> {
-    let mut answer = [0u64; 3];
-    // SAFETY: as in `start_bits`; the bit table is only read.
-    unsafe { ffi::ropeclover_done_count(bits.as_ptr(), bits.len(), answer.as_mut_ptr()) };
-    refused(&answer)?;
-    Ok(answer[2])
+    let [_, _, count] = answered(Operation::Bits, ffi::ropeclover_done_count(bits))?;
+    Ok(count)
 }

@@ -1,5 +1,5 @@
 //! The library's functions on lent memory, but those on a bit table.
-use crate::{ffi, Refusal};
+use crate::{ffi, Operation, Refusal};
 
 /// What [`advance`] answers.
 ///
@@ -50,11 +50,18 @@ pub struct Verdicts {
     pub growing: bool,
 }
 
-fn refused(answer: &[u64]) -> Result<(), Refusal> {
+/// What an operation answers behind a number that refuses it and a place; the refusal where the number is not 0.
+pub(crate) fn answered<const N: usize>(operation: Operation, answer: [u64; N]) -> Result<[u64; N], Refusal> {
     match answer[0] {
-        0 => Ok(()),
-        number => Err(Refusal::new(number, answer[1])),
+        0 => Ok(answer),
+        number => Err(Refusal::of(operation, number, answer[1])),
     }
+}
+
+/// What an advance answers, on whichever table.
+pub(crate) fn advanced(operation: Operation, answer: [u64; 5]) -> Result<Advanced, Refusal> {
+    let [_, _, finished, steps, meetings] = answered(operation, answer)?;
+    Ok(Advanced { finished: finished == 1, steps, meetings })
 }
 
 /// Writes the table and the reasons that the job starts from, and returns its number of states.
@@ -70,21 +77,8 @@ fn refused(answer: &[u64]) -> Result<(), Refusal> {
 /// # Errors
 /// Refusals 10 (table, reasons) and 1 to 9; nothing is written then.
 pub fn start(job: &[u8], table: &mut [u8], reasons: &mut [u32]) -> Result<usize, Refusal> {
-    let mut answer = [0u64; 3];
-    // SAFETY: each pointer comes with its slice's length, the slices are disjoint, and `answer` has the three numbers that are written.
-    unsafe {
-        ffi::ropeclover_start(
-            job.as_ptr(),
-            job.len(),
-            table.as_mut_ptr(),
-            table.len(),
-            reasons.as_mut_ptr(),
-            reasons.len(),
-            answer.as_mut_ptr(),
-        )
-    };
-    refused(&answer)?;
-    Ok(answer[2] as usize)
+    let [_, _, states] = answered(Operation::Table, ffi::ropeclover_start(job, table, reasons))?;
+    Ok(states as usize)
 }
 
 /// Makes at most `n` steps on a table, whatever it holds.
@@ -100,22 +94,7 @@ pub fn start(job: &[u8], table: &mut [u8], reasons: &mut [u32]) -> Result<usize,
 /// # Errors
 /// Refusals 10 (table, reasons) and 1 to 9; nothing is written then.
 pub fn advance(job: &[u8], table: &mut [u8], reasons: &mut [u32], n: u64) -> Result<Advanced, Refusal> {
-    let mut answer = [0u64; 5];
-    // SAFETY: as in `start`; five numbers are written.
-    unsafe {
-        ffi::ropeclover_advance(
-            job.as_ptr(),
-            job.len(),
-            table.as_mut_ptr(),
-            table.len(),
-            reasons.as_mut_ptr(),
-            reasons.len(),
-            n,
-            answer.as_mut_ptr(),
-        )
-    };
-    refused(&answer)?;
-    Ok(Advanced { finished: answer[2] == 1, steps: answer[3], meetings: answer[4] })
+    advanced(Operation::Table, ffi::ropeclover_advance(job, table, reasons, n))
 }
 
 /// Whether a form is accepted on a table: it leads from the initial state to a final one over the done transitions. On a table that this job's
@@ -134,21 +113,8 @@ pub fn advance(job: &[u8], table: &mut [u8], reasons: &mut [u32], n: u64) -> Res
 /// # Errors
 /// Refusals 10 (table), 1 to 9, 12 and 11.
 pub fn ask(job: &[u8], table: &[u8], form: &[u8]) -> Result<bool, Refusal> {
-    let mut answer = [0u64; 3];
-    // SAFETY: as in `start`; the table is only read.
-    unsafe {
-        ffi::ropeclover_ask(
-            job.as_ptr(),
-            job.len(),
-            table.as_ptr(),
-            table.len(),
-            form.as_ptr(),
-            form.len(),
-            answer.as_mut_ptr(),
-        )
-    };
-    refused(&answer)?;
-    Ok(answer[2] == 1)
+    let [_, _, accepted] = answered(Operation::Table, ffi::ropeclover_ask(job, table, form))?;
+    Ok(accepted == 1)
 }
 
 /// Starts, runs to the end, and lists step by step why the form is accepted. [`Workspace::explain`](crate::Workspace::explain) lends a
@@ -173,25 +139,9 @@ pub fn explain(
     form: &[u8],
     listing: &mut [u8],
 ) -> Result<Explained, Refusal> {
-    let mut answer = [0u64; 4];
-    // SAFETY: as in `start`; four numbers are written.
-    unsafe {
-        ffi::ropeclover_explain(
-            job.as_ptr(),
-            job.len(),
-            table.as_mut_ptr(),
-            table.len(),
-            reasons.as_mut_ptr(),
-            reasons.len(),
-            form.as_ptr(),
-            form.len(),
-            listing.as_mut_ptr(),
-            listing.len(),
-            answer.as_mut_ptr(),
-        )
-    };
-    refused(&answer)?;
-    Ok(Explained { accepted: answer[2] == 1, records: answer[3] as usize })
+    let answer = ffi::ropeclover_explain(job, table, reasons, form, listing);
+    let [_, _, accepted, records] = answered(Operation::Table, answer)?;
+    Ok(Explained { accepted: accepted == 1, records: records as usize })
 }
 
 /// Codes of the 64 symbols (0 named in no rule and not the start, 1 useful, 2 derives no terminal string, 3 never reached from the start),
@@ -207,21 +157,8 @@ pub fn explain(
 /// # Errors
 /// Refusals 10 (table, codes) and 1 to 8; nothing is written then.
 pub fn verdicts(job: &[u8], table: &mut [u8], codes: &mut [u8]) -> Result<Verdicts, Refusal> {
-    let mut answer = [0u64; 4];
-    // SAFETY: as in `start`; four numbers are written.
-    unsafe {
-        ffi::ropeclover_verdicts(
-            job.as_ptr(),
-            job.len(),
-            table.as_mut_ptr(),
-            table.len(),
-            codes.as_mut_ptr(),
-            codes.len(),
-            answer.as_mut_ptr(),
-        )
-    };
-    refused(&answer)?;
-    Ok(Verdicts { empty: answer[2] == 1, growing: answer[3] == 1 })
+    let [_, _, empty, growing] = answered(Operation::Table, ffi::ropeclover_verdicts(job, table, codes))?;
+    Ok(Verdicts { empty: empty == 1, growing: growing == 1 })
 }
 
 /// The four bytes of the record that the job is refused for by 3 to 7, a part of the job itself; else the empty part.
@@ -231,10 +168,7 @@ pub fn verdicts(job: &[u8], table: &mut [u8], codes: &mut [u8]) -> Result<Verdic
 /// assert_eq!(ropeclover::show_refused(b"S\0\0\0"), b"");
 /// ```
 pub fn show_refused(job: &[u8]) -> &[u8] {
-    let mut answer = [0u64; 2];
-    // SAFETY: as in `start`; two numbers are written.
-    unsafe { ffi::ropeclover_show(job.as_ptr(), job.len(), answer.as_mut_ptr()) };
-    let (at, length) = (answer[0] as usize, answer[1] as usize);
+    let [at, length] = ffi::ropeclover_show(job).map(|number| number as usize);
     &job[at..at + length]
 }
 
@@ -258,11 +192,6 @@ pub fn show_refused(job: &[u8]) -> &[u8] {
 /// Refusals 2 and 1; 3, 4, 15 and 6 on each record; then 14, 5 and 7 on each record; 8, 9, 2 for the job written, and 13 with the records needed.
 /// Nothing is written then.
 pub fn binarize(long: &[u8], job: &mut [u8]) -> Result<usize, Refusal> {
-    let mut answer = [0u64; 3];
-    // SAFETY: as in `start`; three numbers are written.
-    unsafe { ffi::ropeclover_binarize(long.as_ptr(), long.len(), job.as_mut_ptr(), job.len(), answer.as_mut_ptr()) };
-    match answer {
-        [0, _, records] => Ok(records as usize),
-        [number, place, _] => Err(Refusal::of_long(number, place)),
-    }
+    let [_, _, records] = answered(Operation::Binarize, ffi::ropeclover_binarize(long, job))?;
+    Ok(records as usize)
 }

@@ -1,8 +1,9 @@
 //! Clean copies: the useful rules of a job, in one spelling, and what was left out.
+use crate::calls::answered;
 use crate::format::start_symbol;
 use crate::long::{padded, production};
 use crate::text::Names;
-use crate::{ffi, Refusal, CODES, COPY_BYTES};
+use crate::{ffi, Operation, Refusal, CODES, COPY_BYTES};
 
 /// A symbol's code: some string of the language is derived by way of it.
 const USEFUL: u8 = 1;
@@ -29,13 +30,8 @@ const DERIVES_NO_STRING: u8 = 2;
 /// # Errors
 /// Refusals 1 to 8, and then 13 with the records needed. Nothing is written then.
 pub fn clean(job: &[u8], out: &mut [u8]) -> Result<usize, Refusal> {
-    let mut answer = [0u64; 3];
-    // SAFETY: each pointer comes with its slice's length, the slices are disjoint, and `answer` has the three numbers that are written.
-    unsafe { ffi::ropeclover_clean(job.as_ptr(), job.len(), out.as_mut_ptr(), out.len(), answer.as_mut_ptr()) };
-    match answer {
-        [0, _, records] => Ok(records as usize),
-        [number, place, _] => Err(Refusal::of_clean(number, place)),
-    }
+    let [_, _, records] = answered(Operation::Clean, ffi::ropeclover_clean(job, out))?;
+    Ok(records as usize)
 }
 
 /// The clean copy of a job, in memory of its own.
@@ -104,7 +100,7 @@ fn rules_by_rank(job: &[u8]) -> Vec<[u8; 4]> {
 /// use ropeclover::{text, CleanCopy, Workspace};
 ///
 /// let text = text::read("name 4 go\nname 7 old\nname 32 \"G\"\nS go\nU go \"G\"\nU old 33\n").unwrap();
-/// let copy: CleanCopy = Workspace::new().clean(&text.job).unwrap();
+/// let copy: CleanCopy = Workspace::new().clean(&text.bytes).unwrap();
 /// let names = copy.names(&text.names);
 /// assert_eq!(text::print(&copy.job, &names).unwrap(), "name 0 go\nname 32 \"G\"\nS go 0 0\nU go \"G\" 0\n");
 /// ```
@@ -147,7 +143,7 @@ impl CleanCopy {
     ///
     /// ```
     /// let read = ropeclover::text::read("name 6 go\nname 7 old\nS go\nE go\nE old\n").unwrap();
-    /// let names = ropeclover::Workspace::new().clean(&read.job).unwrap().names(&read.names);
+    /// let names = ropeclover::Workspace::new().clean(&read.bytes).unwrap().names(&read.names);
     /// assert_eq!((names.symbol_name(0), names.find_symbol("old")), (Some("go"), None));
     /// ```
     pub fn names(&self, names: &Names) -> Names {

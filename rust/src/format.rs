@@ -1,4 +1,5 @@
 //! The record format: the kinds, and the class of each field.
+use crate::{RECORD_BYTES, STATES, SYMBOLS, VARIABLES};
 
 /// What a field of a record may hold.
 ///
@@ -27,11 +28,22 @@ impl Class {
     /// assert!(Class::State.holds(31) && !Class::State.holds(32));
     /// ```
     pub fn holds(self, byte: u8) -> bool {
+        usize::from(byte) < self.size()
+    }
+
+    /// How many numbers are in the class, from 0 on.
+    fn size(self) -> usize {
         match self {
-            Class::Unused => byte == 0,
-            Class::Variable | Class::State => byte < 32,
-            Class::Symbol => byte < 64,
+            Class::Unused => 1,
+            Class::Variable => VARIABLES,
+            Class::Symbol => SYMBOLS,
+            Class::State => STATES,
         }
+    }
+
+    /// The numbers of the class, as a message says them.
+    pub(crate) fn numbers(self) -> String {
+        format!("0 to {}", self.size() - 1)
     }
 
     /// What the class is, as a message says it.
@@ -40,12 +52,12 @@ impl Class {
     /// use ropeclover::format::Class;
     /// assert_eq!(Class::Variable.description(), "a variable, 0 to 31");
     /// ```
-    pub fn description(self) -> &'static str {
+    pub fn description(self) -> String {
         match self {
-            Class::Unused => "unused, so 0",
-            Class::Variable => "a variable, 0 to 31",
-            Class::Symbol => "a symbol, 0 to 63",
-            Class::State => "a state, 0 to 31",
+            Class::Unused => "unused, so 0".into(),
+            Class::Variable => format!("a variable, {}", self.numbers()),
+            Class::Symbol => format!("a symbol, {}", self.numbers()),
+            Class::State => format!("a state, {}", self.numbers()),
         }
     }
 }
@@ -87,7 +99,7 @@ pub fn used_fields(kind: u8) -> Option<usize> {
 /// assert_eq!(ropeclover::format::start_symbol(b""), None);
 /// ```
 pub fn start_symbol(job: &[u8]) -> Option<u8> {
-    job.chunks_exact(4).find(|record| record[0] == b'S').map(|record| record[1])
+    job.chunks_exact(RECORD_BYTES).find(|record| record[0] == b'S').map(|record| record[1])
 }
 
 /// The first field, 1 to 3, that is outside its class.

@@ -52,12 +52,11 @@
 //! ```
 //!
 //! The eight functions [`start`], [`advance`], [`ask`], [`explain`], [`verdicts`], [`show_refused`], [`binarize`] and [`clean`] are the library's, on
-//! lent memory; [`Workspace`] owns such memory and knows what it holds. [`start_bits`], [`advance_bits`], [`ask_bits`] and [`done_count`] are the
-//! library's for a table in a quarter of the memory. [`text`] reads and writes jobs as text. [`long`] is for rules with more than two symbols in
-//! their bodies.
+//! lent memory; [`Workspace`] owns such memory and knows what it holds. The module [`bits`] has the library's functions on a table in a quarter of the
+//! memory. [`text`] reads and writes jobs as text. [`long`] is for rules with more than two symbols in their bodies.
 #![deny(missing_docs)]
 
-mod bits;
+pub mod bits;
 mod calls;
 mod clean;
 mod entry;
@@ -74,11 +73,10 @@ pub mod text;
 mod words;
 mod workspace;
 
-pub use bits::{advance_bits, ask_bits, done_count, start_bits};
 pub use calls::{advance, ask, binarize, explain, show_refused, start, verdicts, Advanced, Explained, Verdicts};
 pub use clean::{clean, cleaned, CleanCopy, LeftOut};
 pub use entry::{reason_of, turn_of};
-pub use refusal::{Buffer, Refusal};
+pub use refusal::{Buffer, Operation, Place, Refusal};
 pub use saturation::{Finished, Started};
 pub use shuffle::shuffled;
 pub use words::refusal_text;
@@ -87,6 +85,53 @@ pub use workspace::{Explanation, Report, Workspace};
 /// The version of this crate, which is that of the C header.
 pub const VERSION: &str = env!("CARGO_PKG_VERSION");
 
+/// The variables: 0 to 31.
+///
+/// ```
+/// use ropeclover::{format::Class, VARIABLES};
+/// assert!(Class::Variable.holds(VARIABLES as u8 - 1) && !Class::Variable.holds(VARIABLES as u8));
+/// ```
+pub const VARIABLES: usize = 32;
+
+/// The symbols: the variables, and behind them as many terminals, 32 to 63.
+///
+/// ```
+/// use ropeclover::{format::Class, SYMBOLS};
+/// assert!(Class::Symbol.holds(SYMBOLS as u8 - 1) && !Class::Symbol.holds(SYMBOLS as u8));
+/// ```
+pub const SYMBOLS: usize = 64;
+
+/// The states: 0 to 31.
+///
+/// ```
+/// use ropeclover::{format::Class, STATES};
+/// assert!(Class::State.holds(STATES as u8 - 1) && !Class::State.holds(STATES as u8));
+/// ```
+pub const STATES: usize = 32;
+
+/// The most rules of a job.
+///
+/// ```
+/// let rules = (0..=ropeclover::RULES).flat_map(|n| [b'P', 0, (n / 64) as u8, (n % 64) as u8]);
+/// let refusal = ropeclover::Workspace::new().report(&rules.collect::<Vec<u8>>()).unwrap_err();
+/// assert_eq!((refusal.number(), refusal.record()), (7, Some(256)));
+/// ```
+pub const RULES: usize = 256;
+
+/// The most records of a job, and of a long job.
+///
+/// ```
+/// assert_eq!(ropeclover::RECORDS * ropeclover::RECORD_BYTES, ropeclover::JOB_BYTES);
+/// ```
+pub const RECORDS: usize = 4_096;
+
+/// The length of a record of a job in bytes.
+///
+/// ```
+/// assert_eq!(ropeclover::text::assemble("S 0").unwrap().len(), ropeclover::RECORD_BYTES);
+/// ```
+pub const RECORD_BYTES: usize = 4;
+
 /// The bytes of a table that are read and written.
 ///
 /// ```
@@ -94,7 +139,7 @@ pub const VERSION: &str = env!("CARGO_PKG_VERSION");
 /// ```
 pub const TABLE_BYTES: usize = 65_536;
 
-/// The bytes of a bit table that are read and written: its pending half and its done half. [`start_bits`] says what they hold.
+/// The bytes of a bit table that are read and written: its pending half and its done half. [`bits::start`] says what they hold.
 ///
 /// ```
 /// assert_eq!(ropeclover::BIT_TABLE_BYTES, 2 * ropeclover::TABLE_BYTES / 8);
@@ -122,7 +167,7 @@ pub const REASONS: usize = 32_768;
 /// ropeclover::verdicts(b"S\0\0\0", &mut [0; ropeclover::TABLE_BYTES], &mut codes).unwrap();
 /// assert_eq!(codes[0], 2);
 /// ```
-pub const CODES: usize = 64;
+pub const CODES: usize = SYMBOLS;
 
 /// The longest job in bytes: 4,096 records.
 ///
@@ -140,6 +185,14 @@ pub const JOB_BYTES: usize = 16_384;
 /// assert_eq!(ropeclover::Workspace::new().explain(&job, &form).unwrap_err().number(), 12);
 /// ```
 pub const FORM_SYMBOLS: usize = 64;
+
+/// The length of a record of a listing in bytes.
+///
+/// ```
+/// use ropeclover::{listing::Record, LISTING_RECORD_BYTES};
+/// assert!(Record::from_bytes(&b"\0\x20\x01G\0\0\0\0"[..LISTING_RECORD_BYTES]).is_some());
+/// ```
+pub const LISTING_RECORD_BYTES: usize = 8;
 
 /// The longest listing in bytes: a record of 8 bytes for each transition.
 ///

@@ -9,7 +9,8 @@
 //! // A memory command is M, a digit, T and two digits: variable 0 with a body of five symbols.
 //! let read = text::read("S 0\nL 0 32 1 33 1 1\nU 1 34\nI 0\n").unwrap();
 //! assert!(read.is_long);
-//! let job = long::binarized(&read.job).unwrap();
+//! let job = long::binarized(&read.bytes).unwrap();
+//! assert_eq!(job, read.ordinary().unwrap().job);
 //! // 2, 3 and 4 are taken for the tails.
 //! assert_eq!(
 //!     text::disassemble(&job).unwrap(),
@@ -18,6 +19,7 @@
 //! assert!(!Workspace::new().report(&job).unwrap().empty);
 //! ```
 use crate::format::{self, Class};
+use crate::text::Names;
 use crate::{binarize, Refusal, BODY_SYMBOLS, JOB_BYTES, LONG_RECORD_BYTES};
 use std::collections::BTreeSet;
 
@@ -181,6 +183,44 @@ pub fn binarized(long: &[u8]) -> Result<Vec<u8>, Refusal> {
     Ok(job)
 }
 
+/// The ordinary job of a long job or its text; see [`ordinary`] and [`Text::ordinary`](crate::text::Text::ordinary).
+///
+/// ```
+/// use ropeclover::{long::Ordinary, text};
+/// let ordinary: Ordinary = text::read("S 1\nL 1 1 32 1 33\nI 0\n").unwrap().ordinary().unwrap();
+/// assert_eq!(ordinary.fresh, [0, 2]);
+/// ```
+#[derive(Clone, Debug, PartialEq, Eq)]
+pub struct Ordinary {
+    /// The job.
+    pub job: Vec<u8>,
+    /// The names of its symbols and states.
+    pub names: Names,
+    /// The variables that were taken for the tails of long rules, in ascending order.
+    pub fresh: Vec<u8>,
+}
+
+/// The job that a long job is written as, with the names of the long job's symbols. A variable that is taken is named by what it stands for, as
+/// [`Names::name_tails`] says.
+///
+/// ```
+/// use ropeclover::{long, text};
+/// let names = text::names("name 0 go\n");
+/// let long = text::assemble("S 0\nL 0 32 32 33\nI 0\n").unwrap();
+/// let ordinary = long::ordinary(&long, &names).unwrap();
+/// assert_eq!(ordinary.job, b"S\0\0\0P\0\x20\x01P\x01\x20\x21I\0\0\0");
+/// assert_eq!(ordinary.names.symbol(1), "go.2");
+/// ```
+///
+/// # Errors
+/// All refusals of [`binarize`] but 13.
+pub fn ordinary(long: &[u8], names: &Names) -> Result<Ordinary, Refusal> {
+    let job = binarized(long)?;
+    let mut names = names.clone();
+    names.name_tails(&tails(long, &job));
+    Ok(Ordinary { fresh: fresh(long, &job), job, names })
+}
+
 /// The variables that the records of a long job name.
 fn named(long: &[u8]) -> BTreeSet<u8> {
     let records = long.chunks_exact(LONG_RECORD_BYTES).filter_map(|bytes| LongRecord::try_from(bytes).ok());
@@ -197,8 +237,8 @@ fn named(long: &[u8]) -> BTreeSet<u8> {
 /// ```
 /// use ropeclover::{long, text};
 /// let read = text::read("S 1\nL 1 1 32 1 33\nI 0\n").unwrap();
-/// let job = long::binarized(&read.job).unwrap();
-/// assert_eq!(long::fresh(&read.job, &job), [0, 2]);
+/// let job = long::binarized(&read.bytes).unwrap();
+/// assert_eq!(long::fresh(&read.bytes, &job), [0, 2]);
 /// ```
 pub fn fresh(long: &[u8], job: &[u8]) -> Vec<u8> {
     let records = job.chunks_exact(4).filter_map(|bytes| <[u8; 4]>::try_from(bytes).ok());
@@ -211,7 +251,7 @@ pub fn fresh(long: &[u8], job: &[u8]) -> Vec<u8> {
 /// ```
 /// use ropeclover::{long, text};
 /// let read = text::read("S 0\nL 0 32 1 33 1\nU 1 34\nI 0\n").unwrap();
-/// let tails = long::tails(&read.job, &long::binarized(&read.job).unwrap());
+/// let tails = long::tails(&read.bytes, &long::binarized(&read.bytes).unwrap());
 /// assert_eq!(tails[1], long::Tail { variable: 3, head: 0, rule: 1, from: 3 });
 /// ```
 #[derive(Clone, Copy, Debug, PartialEq, Eq)]
@@ -231,7 +271,7 @@ pub struct Tail {
 /// ```
 /// use ropeclover::{long, text};
 /// let read = text::read("S 1\nL 1 1 32 1 33\nI 0\n").unwrap();
-/// let tails = long::tails(&read.job, &long::binarized(&read.job).unwrap());
+/// let tails = long::tails(&read.bytes, &long::binarized(&read.bytes).unwrap());
 /// assert_eq!(tails.iter().map(|tail| (tail.variable, tail.from)).collect::<Vec<_>>(), [(0, 2), (2, 3)]);
 /// ```
 pub fn tails(long: &[u8], job: &[u8]) -> Vec<Tail> {

@@ -1,13 +1,12 @@
 //! Owned memory for the library's calls, and types that say what it holds.
 use crate::format::start_symbol;
 use crate::listing::{Record, Transition};
-use crate::{
-    explain, sequence, start, turn_of, verdicts, CleanCopy, Refusal, Started, Verdicts, CODES, REASONS, TABLE_BYTES,
-};
+use crate::{explain, sequence, start, turn_of, verdicts, CleanCopy, Refusal, Started, Verdicts};
+use crate::{CODES, LISTING_BYTES, LISTING_RECORD_BYTES, REASONS, TABLE_BYTES};
 use std::fmt;
 
 /// A table and reasons of the right lengths. [`start`](Workspace::start) gives a [`Started`], which becomes a
-/// [`Finished`](crate::Finished), and only that can be asked.
+/// [`Finished`](crate::Finished), and only that can be asked. Two are equal if their tables and reasons are.
 ///
 /// ```
 /// use ropeclover::{text, Workspace};
@@ -17,10 +16,12 @@ use std::fmt;
 /// assert!(workspace.start(&job).unwrap().finish().ask(&[0]).unwrap());
 /// assert_eq!(format!("{workspace:?}"), "Workspace { pending: 0, done: 2, listed: 0 }");
 /// ```
-#[derive(Clone, PartialEq, Eq)]
+#[derive(Clone)]
 pub struct Workspace {
     pub(crate) table: Vec<u8>,
     pub(crate) reasons: Vec<u32>,
+    /// Memory for the longest listing, once a form was explained: lent less, explain would have to run again.
+    listing: Vec<u8>,
 }
 
 /// What the report prints.
@@ -86,6 +87,14 @@ impl Default for Workspace {
     }
 }
 
+impl PartialEq for Workspace {
+    fn eq(&self, other: &Self) -> bool {
+        self.table == other.table && self.reasons == other.reasons
+    }
+}
+
+impl Eq for Workspace {}
+
 /// Counts of the table's bytes; the memory itself is too long to print.
 impl fmt::Debug for Workspace {
     fn fmt(&self, f: &mut fmt::Formatter<'_>) -> fmt::Result {
@@ -105,7 +114,7 @@ impl Workspace {
     /// assert!(ropeclover::Workspace::new().table().iter().all(|byte| *byte == 0));
     /// ```
     pub fn new() -> Self {
-        Workspace { table: vec![0; TABLE_BYTES], reasons: vec![0; REASONS] }
+        Workspace { table: vec![0; TABLE_BYTES], reasons: vec![0; REASONS], listing: Vec::new() }
     }
 
     /// The table, a byte for each transition (q, X, r) at q × 2048 + X × 32 + r: 0 absent, 1 pending, 2 done, 3 done and listed.
@@ -196,7 +205,8 @@ impl Workspace {
         CleanCopy::new(job, verdicts.empty, codes)
     }
 
-    /// Explains a form, with a listing as long as it needs. The memory holds the finished table afterwards, listed transitions as 3.
+    /// Explains a form: saturates once, and lists why it is accepted. The memory holds the finished table afterwards, listed transitions as 3; with the
+    /// first explanation it grows by [`LISTING_BYTES`].
     ///
     /// ```
     /// let job = ropeclover::text::assemble("S 0\nU 0 32\nI 0\nF 1\nT 0 32 1\n").unwrap();
@@ -209,17 +219,14 @@ impl Workspace {
     /// # Errors
     /// Refusals 1 to 9, 12 and 11; the memory is left as it was.
     pub fn explain(&mut self, job: &[u8], form: &[u8]) -> Result<Explanation, Refusal> {
-        let mut listing = Vec::new();
-        let explained = match explain(job, &mut self.table, &mut self.reasons, form, &mut listing) {
-            Err(Refusal::ListingTooShort { records }) => {
-                listing.resize(8 * records as usize, 0);
-                explain(job, &mut self.table, &mut self.reasons, form, &mut listing)?
-            }
-            other => other?,
-        };
+        if self.listing.is_empty() {
+            self.listing = vec![0; LISTING_BYTES];
+        }
+        let explained = explain(job, &mut self.table, &mut self.reasons, form, &mut self.listing)?;
         let accepted = explained.accepted;
         let sequence = if accepted { sequence::first(job, &self.table, form).unwrap_or_default() } else { Vec::new() };
-        let records = listing.chunks_exact(8).take(explained.records).filter_map(Record::from_bytes).collect();
+        let listed = self.listing.chunks_exact(LISTING_RECORD_BYTES).take(explained.records);
+        let records = listed.filter_map(Record::from_bytes).collect();
         Ok(Explanation { accepted, form: form.to_vec(), sequence, records })
     }
 

@@ -1,7 +1,7 @@
 //! Bit tables on random jobs and memory: the library against the machine written apart, and against its own table of bytes.
 mod support;
 
-use ropeclover::{ask, ask_bits, done_count};
+use ropeclover::{ask, bits};
 use support::bits::{byte_says, has_done_bit, has_pending_bit, says, Says};
 use support::bits_run::{Met, Run};
 use support::both::Both;
@@ -43,11 +43,11 @@ impl Both {
         }
         assert!(self.bits_reasons == self.table_reasons, "reasons differ");
         let done = self.table.iter().filter(|byte| byte_says(**byte) == Says::Done).count();
-        assert_eq!(done_count(&self.bits), Ok(done as u64));
+        assert_eq!(bits::done_count(&self.bits), Ok(done as u64));
         for _ in 0..4 {
             let form = self.pairs.form(random, &self.job);
             // A form is refused alike.
-            assert_eq!(ask_bits(&self.job, &self.bits, &form), ask(&self.job, &self.table, &form), "form {form:?}");
+            assert_eq!(bits::ask(&self.job, &self.bits, &form), ask(&self.job, &self.table, &form), "form {form:?}");
         }
     }
 

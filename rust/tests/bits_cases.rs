@@ -1,5 +1,5 @@
 //! Bit tables worked by hand, byte for byte, and refused calls, which leave all lent memory as it was.
-use ropeclover::{advance_bits, ask_bits, done_count, start_bits, text::assemble, Buffer, Refusal};
+use ropeclover::{bits, text::assemble, Buffer, Operation, Refusal};
 
 /// Ranks: 0 -> 1 1 is 0, 0 -> 32 is 1, 1 -> 0 1 is 2, 1 -> 33 is 3.
 const REPORT: &str = "S 0\nU 0 32\nP 0 1 1\nP 1 0 1\nU 1 33\nI 0\nF 2\nT 0 32 1\nT 1 33 2\nT 2 32 1\n";
@@ -26,7 +26,7 @@ fn reasons(entries: &[(usize, u32)]) -> Vec<u32> {
 
 /// Makes at most n steps: finished, steps and meetings.
 fn advanced(job: &[u8], bits: &mut [u8], reasons: &mut [u32], n: u64) -> (bool, u64, u64) {
-    let advanced = advance_bits(job, bits, reasons, n).unwrap();
+    let advanced = bits::advance(job, bits, reasons, n).unwrap();
     (advanced.finished, advanced.steps, advanced.meetings)
 }
 
@@ -37,9 +37,9 @@ fn advanced(job: &[u8], bits: &mut [u8], reasons: &mut [u32], n: u64) -> (bool, 
 fn the_report_byte_by_byte() {
     let job = assemble(REPORT).unwrap();
     let (mut bits, mut found) = (vec![0xff; 16_384], vec![7; 32_768]);
-    assert_eq!(start_bits(&job, &mut bits, &mut found), Ok(3));
+    assert_eq!(bits::start(&job, &mut bits, &mut found), Ok(3));
     assert!(bits == table(&[(128, 0x02), (388, 0x04), (640, 0x02)]) && found == reasons(&[]));
-    assert_eq!(done_count(&bits), Ok(0));
+    assert_eq!(bits::done_count(&bits), Ok(0));
 
     // (0, 32, 1) is taken; (0, 0, 1), of place 1, follows by the rule of rank 1.
     assert_eq!(advanced(&job, &mut bits, &mut found, 1), (false, 1, 0));
@@ -56,10 +56,10 @@ fn the_report_byte_by_byte() {
     let done = [(DONE, 0x02), (DONE + 128, 0x02), (DONE + 260, 0x04), (DONE + 388, 0x04)];
     assert!(bits == table(&[&[(4, 0x04), (640, 0x02)], &done[..]].concat()));
     assert!(found == reasons(&[(1, 33 + TURN), (34, 66 + 4 * TURN), (1058, 97 + 3 * TURN)]));
-    assert_eq!(done_count(&bits), Ok(4));
-    assert_eq!(ask_bits(&job, &bits, &[0, 33]), Ok(true));
+    assert_eq!(bits::done_count(&bits), Ok(4));
+    assert_eq!(bits::ask(&job, &bits, &[0, 33]), Ok(true));
     // (0, 1, 2) is pending.
-    assert_eq!(ask_bits(&job, &bits, &[1]), Ok(false));
+    assert_eq!(bits::ask(&job, &bits, &[1]), Ok(false));
 
     // The done transitions of variables: (0, 0, 1), (0, 0, 2) and (0, 1, 2); (1, 0, 2) and (1, 1, 2); (2, 0, 1), (2, 0, 2) and (2, 1, 2).
     assert_eq!(advanced(&job, &mut bits, &mut found, u64::MAX), (true, 7, 7));
@@ -67,8 +67,8 @@ fn the_report_byte_by_byte() {
     let given = [(128, 0x02), (388, 0x04), (640, 0x02)];
     let done: Vec<(usize, u8)> = variables.iter().chain(&given).map(|(at, byte)| (DONE + at, *byte)).collect();
     assert!(bits == table(&done));
-    assert_eq!(done_count(&bits), Ok(11));
-    assert_eq!(ask_bits(&job, &bits, &[0]), Ok(true));
+    assert_eq!(bits::done_count(&bits), Ok(11));
+    assert_eq!(bits::ask(&job, &bits, &[0]), Ok(true));
     // Step 6 takes (2, 32, 1) and adds (2, 0, 1), step 7 takes that and adds (2, 1, 2), and step 8 takes that and adds those of 0 to 2.
     let from_0 = [(1, 33 + TURN), (2, 1 + 2 + 8 * TURN), (34, 66 + 4 * TURN)];
     let from_1 = [(1026, 1 + 2 + 8 * TURN), (1058, 97 + 3 * TURN)];
@@ -83,7 +83,7 @@ fn the_report_byte_by_byte() {
 fn places_at_the_ends() {
     let job = assemble("S 0\nI 0\nF 31\nT 0 0 0\nT 0 0 7\nT 0 0 8\nT 31 63 31\n").unwrap();
     let (mut bits, mut found) = (vec![0; 16_384], vec![0; 32_768]);
-    assert_eq!(start_bits(&job, &mut bits, &mut found), Ok(32));
+    assert_eq!(bits::start(&job, &mut bits, &mut found), Ok(32));
     assert!(bits == table(&[(0, 0x81), (1, 0x01), (8_191, 0x80)]));
     assert!(found == reasons(&[(0, 65_535), (7, 65_535), (8, 65_535)]));
     assert_eq!(advanced(&job, &mut bits, &mut found, 1), (false, 1, 0));
@@ -92,7 +92,7 @@ fn places_at_the_ends() {
     assert!(bits == table(&[(8_191, 0x80), (DONE, 0x81), (DONE + 1, 0x01)]));
     assert_eq!(advanced(&job, &mut bits, &mut found, 2), (true, 1, 0));
     assert!(bits == table(&[(DONE, 0x81), (DONE + 1, 0x01), (16_383, 0x80)]));
-    assert_eq!(done_count(&bits), Ok(4));
+    assert_eq!(bits::done_count(&bits), Ok(4));
 }
 
 /// A place with both bits: never taken, kept, no hindrance to being finished, and done for whatever it leads to.
@@ -106,12 +106,12 @@ fn both_bits() {
         assert_eq!(advanced(&job, &mut bits, &mut found, n), (true, 0, 0));
         assert!(bits == table(&both) && found.iter().all(|number| *number == 9));
     }
-    assert_eq!(done_count(&bits), Ok(2));
-    assert_eq!(ask_bits(&job, &bits, &[32, 33]), Ok(true));
+    assert_eq!(bits::done_count(&bits), Ok(2));
+    assert_eq!(bits::ask(&job, &bits, &[32, 33]), Ok(true));
 
     // (1, 33, 2) is only pending now: it meets (0, 32, 1), which has both bits, and (0, 0, 2), of place 2, follows with the middle 1.
     let (mut bits, mut found) = (table(&both[..3]), vec![9; 32_768]);
-    assert_eq!(ask_bits(&job, &bits, &[32, 33]), Ok(false));
+    assert_eq!(bits::ask(&job, &bits, &[32, 33]), Ok(false));
     assert_eq!(advanced(&job, &mut bits, &mut found, 1), (false, 1, 1));
     assert!(bits == table(&[(0, 0x04), (128, 0x02), (DONE + 128, 0x02), (DONE + 388, 0x04)]));
     // Two places are done then, the one with both bits among them.
@@ -123,7 +123,7 @@ fn both_bits() {
     assert_eq!(advanced(&job, &mut bits, &mut found, u64::MAX), (true, 1, 1));
     assert!(bits == table(&[&kept[..], &[(DONE + 128, 0x02)]].concat()));
     assert!(found.iter().all(|number| *number == 9));
-    assert_eq!(done_count(&bits), Ok(4));
+    assert_eq!(bits::done_count(&bits), Ok(4));
 }
 
 /// Tables of one byte in each half. 0 -> 0 0 meets at every three states once all transitions of 0 are done.
@@ -134,7 +134,7 @@ fn tables_full_of_one_byte() {
         [(0, 0, 0, 0), (0xff, 0, 65_536, 32 * 32 * 32), (0, 0xff, 0, 0), (0xff, 0xff, 0, 0), (0xaa, 0xff, 0, 0)]
     {
         let (mut bits, mut found) = ([[pending; DONE], [done; DONE]].concat(), vec![5; 32_768]);
-        assert_eq!(done_count(&bits), Ok(8_192 * u64::from(u8::count_ones(done))));
+        assert_eq!(bits::done_count(&bits), Ok(8_192 * u64::from(u8::count_ones(done))));
         assert_eq!(advanced(&job, &mut bits, &mut found, u64::MAX), (true, steps, meetings));
         let left = if steps == 0 { [pending, done] } else { [0, 0xff] };
         assert!(bits == [[left[0]; DONE], [left[1]; DONE]].concat() && found.iter().all(|number| *number == 5));
@@ -150,11 +150,11 @@ fn lent(bytes: usize, numbers: usize) -> (Vec<u8>, Vec<u32>) {
 fn refuses(job: &[u8], (bytes, numbers): (usize, usize), (number, place): (u64, u64)) {
     let (before, reasons_before) = lent(bytes, numbers);
     let (mut bits, mut reasons) = lent(bytes, numbers);
-    let refusal = Refusal::of_bits(number, place);
-    assert_eq!(start_bits(job, &mut bits, &mut reasons), Err(refusal));
+    let refusal = Refusal::of(Operation::Bits, number, place);
+    assert_eq!(bits::start(job, &mut bits, &mut reasons), Err(refusal));
     assert!(bits == before && reasons == reasons_before, "start writes though it is refused by {refusal:?}");
     for n in [0, 1, u64::MAX] {
-        assert_eq!(advance_bits(job, &mut bits, &mut reasons, n), Err(refusal));
+        assert_eq!(bits::advance(job, &mut bits, &mut reasons, n), Err(refusal));
         assert!(bits == before && reasons == reasons_before, "advance writes though it is refused by {refusal:?}");
     }
 }
@@ -171,10 +171,10 @@ fn short_buffers() {
                 refuses(job, (bytes, numbers), (10, 1));
             }
             for form in [&[0][..], &[64], &[0; 65]] {
-                assert_eq!(ask_bits(job, &bits, form), Err(refusal));
+                assert_eq!(bits::ask(job, &bits, form), Err(refusal));
             }
         }
-        assert_eq!(done_count(&bits), Err(refusal));
+        assert_eq!(bits::done_count(&bits), Err(refusal));
         assert_eq!((refusal.number(), refusal.place()), (10, 1));
         assert_eq!(refusal.to_string(), "the lent bit table has fewer than 16384 bytes");
     }
@@ -208,7 +208,7 @@ fn refused_jobs() {
         refuses(&job, (16_384, 32_768), (number, place));
         refuses(&job, (16_400, 32_800), (number, place));
         for form in [&[][..], &[64], &[0; 65]] {
-            assert_eq!(ask_bits(&job, &lent(16_384, 0).0, form), Err(Refusal::new(number, place)));
+            assert_eq!(bits::ask(&job, &lent(16_384, 0).0, form), Err(Refusal::of(Operation::Table, number, place)));
         }
     }
 }
@@ -217,11 +217,11 @@ fn refused_jobs() {
 fn refused_forms() {
     let job = assemble(REPORT).unwrap();
     let (bits, _) = lent(16_384, 0);
-    assert!(ask_bits(&job, &bits, &[63; 64]).is_ok());
-    assert_eq!(ask_bits(&job, &bits, &[0; 65]), Err(Refusal::new(12, 65)));
+    assert!(bits::ask(&job, &bits, &[63; 64]).is_ok());
+    assert_eq!(bits::ask(&job, &bits, &[0; 65]), Err(Refusal::of(Operation::Table, 12, 65)));
     // 12 comes before 11, and 11 gives the first place.
-    assert_eq!(ask_bits(&job, &bits, &[64; 65]), Err(Refusal::new(12, 65)));
-    assert_eq!(ask_bits(&job, &bits, &[63, 64, 255]), Err(Refusal::new(11, 1)));
+    assert_eq!(bits::ask(&job, &bits, &[64; 65]), Err(Refusal::of(Operation::Table, 12, 65)));
+    assert_eq!(bits::ask(&job, &bits, &[63, 64, 255]), Err(Refusal::of(Operation::Table, 11, 1)));
 }
 
 /// Longer buffers are taken, and past the ends nothing is written or read.
@@ -231,10 +231,10 @@ fn longer_buffers() {
     for (bytes, numbers) in [(16_384, 32_768), (16_385, 32_769), (16_640, 33_000), (65_536, 65_536)] {
         let (before, reasons_before) = lent(bytes, numbers);
         let (mut bits, mut found) = lent(bytes, numbers);
-        assert_eq!(start_bits(&job, &mut bits, &mut found), Ok(3));
+        assert_eq!(bits::start(&job, &mut bits, &mut found), Ok(3));
         assert!(bits[..16_384] == table(&[(128, 0x02), (388, 0x04), (640, 0x02)]));
         assert_eq!(advanced(&job, &mut bits, &mut found, u64::MAX), (true, 11, 8));
-        assert_eq!((done_count(&bits), ask_bits(&job, &bits, &[0])), (Ok(11), Ok(true)));
+        assert_eq!((bits::done_count(&bits), bits::ask(&job, &bits, &[0])), (Ok(11), Ok(true)));
         assert!(bits[16_384..] == before[16_384..] && found[32_768..] == reasons_before[32_768..]);
     }
 }

@@ -237,14 +237,3 @@ fn why_a_rule_is_left_out() {
         expected(&[("E 3 0 0", 3, 3), ("P 3 3 0", 3, 3), ("U 3 33 0", 3, 3), ("U 4 4 0", 4, 2)])
     );
 }
-
-/// A refusal by clean keeps its number and its place, and says what is too short.
-#[test]
-fn refusals_keep_their_number_and_place() {
-    for (number, place) in (1..=15).flat_map(|number| [0, 1, 257].map(|place| (number, place))) {
-        let refusal = Refusal::of_clean(number, place);
-        assert_eq!((refusal.number(), refusal.place()), (number, place));
-        assert_eq!(refusal == Refusal::new(number, place), number != 13);
-    }
-    assert!(Refusal::of_clean(13, 257).to_string().ends_with("room for 257 records of 4 bytes is needed"));
-}

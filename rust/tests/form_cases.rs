@@ -1,5 +1,5 @@
 //! Ask and explain on forms of every length, and listings written out by hand from the specification.
-use ropeclover::{ask, explain, text::assemble, Refusal, Workspace};
+use ropeclover::{ask, explain, text::assemble, Operation, Refusal, Workspace};
 
 const REPORT: &str = "S 0\nU 0 32\nP 0 1 1\nP 1 0 1\nU 1 33\nI 0\nF 2\nT 0 32 1\nT 1 33 2\nT 2 32 1\n";
 
@@ -43,7 +43,7 @@ fn a_listing_that_is_too_short() {
         let (mut table, mut reasons) = lent();
         let mut listing = vec![7; length];
         let refused = explain(&job, &mut table, &mut reasons, &[0], &mut listing);
-        assert_eq!(refused, Err(Refusal::new(13, 9)));
+        assert_eq!(refused, Err(Refusal::of(Operation::Table, 13, 9)));
         assert!(listing.iter().all(|byte| *byte == 7));
         let (mut other_table, mut other_reasons) = lent();
         explain(&job, &mut other_table, &mut other_reasons, &[0], &mut [0; 72]).unwrap();
@@ -64,11 +64,11 @@ fn forms_of_every_length() {
         assert_eq!(explanation.records.len(), length.min(1));
         assert_eq!(ask(&job, workspace.table(), &vec![63; length]), Ok(true));
     }
-    assert_eq!(ask(&job, workspace.table(), &[0; 65]), Err(Refusal::new(12, 65)));
+    assert_eq!(ask(&job, workspace.table(), &[0; 65]), Err(Refusal::of(Operation::Table, 12, 65)));
     // 12 comes before 11, and 11 gives the first place.
-    assert_eq!(ask(&job, workspace.table(), &[64; 65]), Err(Refusal::new(12, 65)));
-    assert_eq!(ask(&job, workspace.table(), &[63, 64, 255]), Err(Refusal::new(11, 1)));
-    assert_eq!(workspace.explain(&job, &[63, 64, 255]).unwrap_err(), Refusal::new(11, 1));
+    assert_eq!(ask(&job, workspace.table(), &[64; 65]), Err(Refusal::of(Operation::Table, 12, 65)));
+    assert_eq!(ask(&job, workspace.table(), &[63, 64, 255]), Err(Refusal::of(Operation::Table, 11, 1)));
+    assert_eq!(workspace.explain(&job, &[63, 64, 255]).unwrap_err(), Refusal::of(Operation::Table, 11, 1));
 }
 
 #[test]

@@ -1,4 +1,4 @@
-//! The crate says what the C header says: its version, and each refusal in words.
+//! The crate says what the C header says: its version, its limits, and each refusal in words.
 use std::collections::HashMap;
 
 fn header() -> String {
@@ -18,6 +18,33 @@ fn versions_agree() {
     let header = header();
     let line = header.lines().find_map(|line| line.strip_prefix("#define ROPECLOVER_VERSION \"")).unwrap();
     assert_eq!(line.trim_end_matches('"'), ropeclover::VERSION);
+}
+
+#[test]
+fn limits_agree() {
+    let header = header();
+    for (name, value) in [
+        ("TABLE_BYTES", ropeclover::TABLE_BYTES),
+        ("BIT_TABLE_BYTES", ropeclover::BIT_TABLE_BYTES),
+        ("HALF_BYTES", ropeclover::HALF_BYTES),
+        ("REASONS", ropeclover::REASONS),
+        ("CODES", ropeclover::CODES),
+        ("JOB_BYTES", ropeclover::JOB_BYTES),
+        ("RECORDS", ropeclover::RECORDS),
+        ("RULES", ropeclover::RULES),
+        ("VARIABLES", ropeclover::VARIABLES),
+        ("SYMBOLS", ropeclover::SYMBOLS),
+        ("STATES", ropeclover::STATES),
+        ("FORM_SYMBOLS", ropeclover::FORM_SYMBOLS),
+        ("LISTING_RECORD_BYTES", ropeclover::LISTING_RECORD_BYTES),
+        ("LISTING_BYTES", ropeclover::LISTING_BYTES),
+        ("LONG_JOB_BYTES", ropeclover::LONG_JOB_BYTES),
+        ("LONG_RECORD_BYTES", ropeclover::LONG_RECORD_BYTES),
+        ("BODY_SYMBOLS", ropeclover::BODY_SYMBOLS),
+        ("COPY_BYTES", ropeclover::COPY_BYTES),
+    ] {
+        assert!(header.contains(&format!("#define ROPECLOVER_{name} {value}\n")), "{name}");
+    }
 }
 
 #[test]

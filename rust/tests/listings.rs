@@ -3,7 +3,7 @@
 mod support;
 
 use ropeclover::listing::{Reason, Record, Transition};
-use ropeclover::{Explanation, Workspace};
+use ropeclover::{explain, Explanation, Refusal, Workspace, REASONS, TABLE_BYTES};
 use std::collections::HashMap;
 use support::jobs::{self, chain_of_reasons, Pairs};
 use support::seed;
@@ -101,4 +101,61 @@ fn a_long_chain_of_reasons() {
     let explanation = Workspace::new().explain(&job, &[26]).unwrap();
     assert!(explanation.records.len() > 20_000);
     replay(&job, &explanation.records);
+}
+
+/// What an explanation answers and leaves: whether the form is accepted, the records, the table and the reasons.
+type Left = (bool, Vec<Record>, Vec<u8>, Vec<u32>);
+
+/// A form explained on memory of its own, with a listing of exactly the length that a first call asks for.
+fn explained_apart(job: &[u8], form: &[u8]) -> Result<Left, Refusal> {
+    let (mut table, mut reasons) = (vec![0; TABLE_BYTES], vec![0; REASONS]);
+    let mut listing = match explain(job, &mut table, &mut reasons, form, &mut []) {
+        Err(Refusal::ListingTooShort { records }) => vec![0; 8 * records as usize],
+        _ => vec![],
+    };
+    let explained = explain(job, &mut table, &mut reasons, form, &mut listing)?;
+    assert_eq!(listing.len(), 8 * explained.records);
+    let records = listing.chunks(8).map(|bytes| Record::from_bytes(bytes).unwrap()).collect();
+    Ok((explained.accepted, records, table, reasons))
+}
+
+/// One workspace over many jobs and forms, whose listings are now longer and now shorter, answers and leaves what memory of a form's own does; of an
+/// earlier listing nothing is seen.
+#[test]
+fn a_workspace_that_is_kept() {
+    let mut random = seed("a workspace that is kept");
+    let mut workspace = Workspace::new();
+    let chain = chain_of_reasons();
+    let mut lengths = Vec::new();
+    for round in 0..300 {
+        let (job, form) = match round % 60 {
+            0 => (chain.clone(), vec![26]),
+            _ => {
+                let job = jobs::started(&mut random, Pairs::Symbols);
+                let form = Pairs::Symbols.form(&mut random, &job);
+                (job, form)
+            }
+        };
+        let by_workspace = workspace.explain(&job, &form);
+        let found = by_workspace.map(|explanation| {
+            (explanation.accepted, explanation.records, workspace.table().to_vec(), workspace.reasons().to_vec())
+        });
+        assert!(found == explained_apart(&job, &form), "round {round}");
+        lengths.extend(found.map(|(_, records, _, _)| records.len()));
+    }
+    let grow = lengths.windows(2).filter(|pair| pair[0] < pair[1]).count();
+    let shrink = lengths.windows(2).filter(|pair| pair[0] > pair[1]).count();
+    assert!(grow > 20 && shrink > 20 && lengths[0] > 20_000, "{lengths:?}");
+}
+
+/// What a workspace compares is its table and reasons: whether a form was explained before is nothing that can be asked.
+#[test]
+fn equal_workspaces() {
+    let job = b"S\0\0\0I\0\0\0F\0\0\0";
+    let (mut one, mut other) = (Workspace::new(), Workspace::new());
+    one.explain(job, &[]).unwrap();
+    other.start(job).unwrap().finish();
+    assert_eq!(one, other);
+    one.start(b"S\0\0\0I\0\0\0T\0\x20\x01").unwrap();
+    assert_ne!(one, other);
 }

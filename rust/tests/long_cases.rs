@@ -1,7 +1,7 @@
 //! Long bodies by hand: what is written, worked out from the request's words; the order of the checks; and the exact limits.
 mod support;
 
-use ropeclover::{binarize, text::assemble, Refusal};
+use ropeclover::{binarize, text::assemble};
 use support::long_jobs::{padded, rule};
 
 /// The job that a text's long job is written as.
@@ -13,9 +13,9 @@ fn written(text: &str) -> Vec<u8> {
 fn long(text: &str) -> Vec<u8> {
     let read = ropeclover::text::read(text).unwrap();
     if read.is_long {
-        return read.job;
+        return read.bytes;
     }
-    read.job.chunks(4).flat_map(padded).collect()
+    read.bytes.chunks(4).flat_map(padded).collect()
 }
 
 /// The refusal of a long job into a buffer of a length.
@@ -308,19 +308,6 @@ fn a_buffer_one_byte_short() {
         if expected.is_err() {
             assert_eq!(refused(&long, length), (13, 4));
             assert_eq!(job, vec![3; length]);
-        }
-    }
-}
-
-/// Whatever a refusal is called, it keeps its number and its place.
-#[test]
-fn refusals_keep_their_number_and_place() {
-    for (number, place) in (1..=15).flat_map(|number| [0, 3, 16_388, 49_164].map(|place| (number, place))) {
-        for refusal in [Refusal::new(number, place), Refusal::of_long(number, place)] {
-            assert_eq!((refusal.number(), refusal.place()), (number, place));
-            let is_record = matches!(number, 3..=7 | 14 | 15);
-            assert_eq!(refusal.record(), is_record.then_some(place as usize));
-            assert!(!refusal.to_string().starts_with("refused by") || number == 10, "{refusal}");
         }
     }
 }

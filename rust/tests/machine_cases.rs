@@ -1,5 +1,5 @@
 //! Start and advance on jobs worked by hand, step by step, and on tables that no start wrote.
-use ropeclover::{advance, start, text::assemble, Refusal, Workspace};
+use ropeclover::{advance, start, text::assemble, Operation, Refusal, Workspace};
 
 const REPORT: &str = "S 0\nU 0 32\nP 0 1 1\nP 1 0 1\nU 1 33\nI 0\nF 2\nT 0 32 1\nT 1 33 2\nT 2 32 1\n";
 
@@ -119,7 +119,7 @@ fn short_buffers_are_left_alone() {
     let job = assemble(REPORT).unwrap();
     for (bytes, numbers, place) in [(65_535, 32_768, 1), (0, 0, 1), (65_536, 32_767, 2), (65_536, 0, 2)] {
         let (mut table, mut reasons) = (vec![9; bytes], vec![9; numbers]);
-        let refusal = Refusal::new(10, place);
+        let refusal = Refusal::of(Operation::Table, 10, place);
         assert_eq!(start(&job, &mut table, &mut reasons), Err(refusal));
         assert_eq!(advance(&job, &mut table, &mut reasons, 3), Err(refusal));
         // Row 10 comes before a job that is wrong too.

@@ -1,7 +1,7 @@
 //! The same list of calls on a job and on its records in another order, refused calls included.
 mod support;
 
-use ropeclover::{advance, advance_bits, ask, ask_bits, done_count, explain, start, start_bits, verdicts, BIT_TABLE_BYTES};
+use ropeclover::{advance, ask, bits, explain, start, verdicts, BIT_TABLE_BYTES};
 use support::jobs::{self, Pairs};
 use support::{seed, Random};
 
@@ -40,10 +40,10 @@ fn run_on_bits(job: &[u8], pairs: Pairs, mut random: Random, lengths: (usize, us
     let mut answers = vec![];
     for _ in 0..8 {
         answers.push(match random.below(6) {
-            0 => format!("{:?}", start_bits(job, &mut bits, &mut reason)),
-            1..=3 => format!("{:?}", advance_bits(job, &mut bits, &mut reason, random.below(60) as u64)),
-            4 => format!("{:?}", ask_bits(job, &bits, &pairs.form(&mut random, job))),
-            _ => format!("{:?}", done_count(&bits)),
+            0 => format!("{:?}", bits::start(job, &mut bits, &mut reason)),
+            1..=3 => format!("{:?}", bits::advance(job, &mut bits, &mut reason, random.below(60) as u64)),
+            4 => format!("{:?}", bits::ask(job, &bits, &pairs.form(&mut random, job))),
+            _ => format!("{:?}", bits::done_count(&bits)),
         });
     }
     (Answers(answers), bits, reason)

@@ -1,7 +1,7 @@
 //! The stack that a call needs: every call is made in a thread with the 128 KiB that the header promises to be enough, its own start included.
 mod support;
 
-use ropeclover::{advance, advance_bits, ask, ask_bits, binarize, clean, done_count, explain, show_refused, start, start_bits, verdicts};
+use ropeclover::{advance, ask, binarize, bits, clean, explain, show_refused, start, verdicts};
 use ropeclover::{BIT_TABLE_BYTES, REASONS, TABLE_BYTES};
 use support::jobs::{chain_of_reasons, most_records};
 
@@ -31,10 +31,10 @@ fn calls_on_bits() {
     let job = chain_of_reasons();
     let (mut bits, mut reasons) = (vec![0; BIT_TABLE_BYTES], vec![0; REASONS]);
     within_the_promise(move || {
-        start_bits(&job, &mut bits, &mut reasons).unwrap();
-        let advanced = advance_bits(&job, &mut bits, &mut reasons, u64::MAX).unwrap();
-        assert!(advanced.finished && ask_bits(&job, &bits, &[26]).unwrap());
-        assert_eq!(done_count(&bits), Ok(advanced.steps));
+        bits::start(&job, &mut bits, &mut reasons).unwrap();
+        let advanced = bits::advance(&job, &mut bits, &mut reasons, u64::MAX).unwrap();
+        assert!(advanced.finished && bits::ask(&job, &bits, &[26]).unwrap());
+        assert_eq!(bits::done_count(&bits), Ok(advanced.steps));
     });
 }
 

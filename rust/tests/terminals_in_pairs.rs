@@ -2,7 +2,7 @@
 //! value of a body's bytes; and random grammars against the verdicts written apart, and against themselves with a variable for each terminal.
 mod support;
 
-use ropeclover::{advance, ask, explain, show_refused, start, text::assemble, verdicts, Refusal, Workspace};
+use ropeclover::{advance, ask, explain, show_refused, start, text::assemble, verdicts, Operation, Refusal, Workspace};
 use std::collections::{BTreeMap, BTreeSet};
 use support::jobs::{self, Pairs, Record};
 use support::machine::{self, names, place, Triple};
@@ -230,7 +230,7 @@ fn every_value_in_a_body() {
         let (number, shown) = if value < 64 { (3, &job[12..]) } else { (2, &record[..]) };
         assert_eq!(show_refused(&job), shown, "{record:?}");
         let (mut table, mut reasons, mut codes) = (vec![1; 65_536], vec![1; 32_768], [9; 64]);
-        let refusal = Refusal::new(4, number);
+        let refusal = Refusal::of(Operation::Table, 4, number);
         for (job, refused) in [(&job[..], Some(refusal)), (&job[..12], Some(refusal).filter(|_| value > 63))] {
             let (t, r) = (&mut table[..], &mut reasons[..]);
             assert_eq!(verdicts(job, t, &mut codes).err(), refused, "{record:?}");

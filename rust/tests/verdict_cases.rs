@@ -1,5 +1,5 @@
 //! Verdicts where other checkers go wrong, and at the limits.
-use ropeclover::{text::assemble, verdicts, Refusal};
+use ropeclover::{text::assemble, verdicts, Operation, Refusal};
 
 fn judge(text: &str) -> (bool, bool, Vec<u8>) {
     let (mut table, mut codes) = (vec![1; 65_536], vec![9; 64]);
@@ -53,7 +53,7 @@ fn codes_buffers() {
         let (mut table, mut codes) = (vec![1; 65_540], vec![9; length]);
         let found = verdicts(&job, &mut table, &mut codes);
         if length < 64 {
-            assert_eq!(found, Err(Refusal::new(10, 3)));
+            assert_eq!(found, Err(Refusal::of(Operation::Table, 10, 3)));
             assert!(codes.iter().all(|code| *code == 9) && table.iter().all(|byte| *byte == 1));
         } else {
             assert!(found.is_ok());
@@ -62,5 +62,5 @@ fn codes_buffers() {
         }
     }
     // A short table is told first; no I is needed.
-    assert_eq!(verdicts(&job, &mut [0; 9], &mut [0; 9]), Err(Refusal::new(10, 1)));
+    assert_eq!(verdicts(&job, &mut [0; 9], &mut [0; 9]), Err(Refusal::of(Operation::Table, 10, 1)));
 }

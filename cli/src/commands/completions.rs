@@ -2,7 +2,7 @@
 use crate::args::{Args, Completions};
 use crate::failure::Failure;
 use crate::output;
-use clap::CommandFactory;
+use clap::{CommandFactory, ValueHint};
 use clap_complete::Shell;
 
 /// A line of options without the signs for words that are none, as [FILE].
@@ -12,11 +12,21 @@ fn without_signs(line: &str) -> String {
     format!("{start}\"{}\"", options.join(" "))
 }
 
-/// The script for bash with files where they are due. As it is made, it offers options and '[FILE]' as long as nothing is typed. Where a subcommand takes
-/// files, options are now offered behind a hyphen alone, and nothing else is, so that bash offers files, as the script's last line asks it to.
+/// The options whose value is no file, as the script for bash has them before their cases: `--steps)`.
+fn without_files() -> Vec<String> {
+    let command = Args::command();
+    let options = command.get_subcommands().flat_map(|subcommand| subcommand.get_arguments());
+    let other = options.filter(|option| option.get_value_hint() == ValueHint::Other);
+    other.filter_map(|option| Some(format!("--{})", option.get_long()?))).collect()
+}
+
+/// The script for bash with files where they are due, and nowhere else. As it is made, it offers options and '[FILE]' as long as nothing is typed. Where a
+/// subcommand takes files, options are now offered behind a hyphen alone, and nothing else is, so that bash offers files, as the script's last line asks
+/// it to. Behind an option whose value is no file, bash is told not to.
 fn with_files(script: &str) -> String {
     let mut mended = String::new();
-    let (mut takes_files, mut is_behind) = (false, false);
+    let without_files = without_files();
+    let (mut takes_files, mut is_behind, mut is_other) = (false, false, false);
     for line in script.lines() {
         let words = line.trim_start();
         if words.starts_with("opts=\"") {
@@ -25,12 +35,17 @@ fn with_files(script: &str) -> String {
             mended.push_str(&without_signs(line));
         } else if takes_files && words.starts_with("if [[ ${cur} == -*") {
             mended.push_str(&line.replace(" || ${COMP_CWORD} -eq 2", ""));
+        } else if is_other && words.starts_with("COMPREPLY=") {
+            // Only bash itself knows the command that is completed; a script that calls the function has none.
+            let indent = &line[..line.len() - words.len()];
+            mended.push_str(&format!("{indent}compopt +o bashdefault +o default 2>/dev/null\n{indent}COMPREPLY=()"));
         } else if takes_files && is_behind && words.starts_with("COMPREPLY=") {
             mended.push_str(&line.replace(words, "COMPREPLY=()"));
         } else {
             mended.push_str(line);
         }
         is_behind |= words == "esac";
+        is_other = without_files.iter().any(|option| option == words);
         mended.push('\n');
     }
     mended

@@ -3,7 +3,6 @@ use crate::failure::Failure;
 use crate::input::Input;
 use crate::{form, quote};
 use ropeclover::format::start_symbol;
-use ropeclover::long;
 use ropeclover::text::FormLine;
 use std::collections::BTreeSet;
 
@@ -37,8 +36,8 @@ impl Asked {
 }
 
 /// An error where a form line names a variable that was free, and that a long rule took: it is another symbol now.
-fn check_taken(line: &FormLine, taken: &[u8], input: &Input) -> Result<(), Failure> {
-    match line.symbols.iter().find(|symbol| taken.contains(symbol)) {
+fn check_taken(line: &FormLine, input: &Input) -> Result<(), Failure> {
+    match line.symbols.iter().find(|symbol| input.fresh.contains(symbol)) {
         Some(symbol) => Err(Failure::Differs(format!(
             "{}: the form in line {} has variable {symbol}, which no record names, so that a long rule took it",
             input.name, line.line
@@ -51,9 +50,8 @@ fn check_taken(line: &FormLine, taken: &[u8], input: &Input) -> Result<(), Failu
 pub fn forms(own: &[String], input: &Input) -> Result<Asked, Failure> {
     let start = start_symbol(&input.job).into_iter().collect();
     let mut asked = Asked { forms: vec![start], skipped: Vec::new(), warnings: Vec::new(), taken: BTreeSet::new() };
-    let taken = input.long.as_ref().map(|long| long::fresh(long, &input.job)).unwrap_or_default();
     for line in &input.forms {
-        check_taken(line, &taken, input)?;
+        check_taken(line, input)?;
         asked.take(line.symbols.clone());
         asked.warn(form::warnings(&line.text, &input.names));
     }

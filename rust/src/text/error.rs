@@ -80,8 +80,8 @@ impl fmt::Display for Problem {
                 "'{}' is no name: a letter and then letters, digits, '_', '-' and '.', or a string in quotes, at most {NAME_CHARACTERS} characters",
                 plain(word)
             ),
-            Problem::NoSymbol => write!(f, "a symbol is a number from 0 to 63"),
-            Problem::NoState => write!(f, "a state is a number from 0 to 31"),
+            Problem::NoSymbol => write!(f, "a symbol is a number from {}", Class::Symbol.numbers()),
+            Problem::NoState => write!(f, "a state is a number from {}", Class::State.numbers()),
             Problem::FormWords => write!(f, "a form is due here; \"\" is the empty one"),
             Problem::NoForm(unknown) => unknown.fmt(f),
             Problem::NamedAlready(earlier) => write!(f, "this number has a name already, from line {}", earlier.line),
@@ -105,13 +105,13 @@ fn field_number(f: &mut fmt::Formatter<'_>, kind: u8, fields: usize) -> fmt::Res
 }
 
 fn no_field(f: &mut fmt::Formatter<'_>, word: &str, class: Option<Class>) -> fmt::Result {
-    let (what, numbers) = match class {
-        Some(Class::Variable) => ("variable", "0 to 31"),
-        Some(Class::Symbol) => ("symbol", "0 to 63"),
-        Some(Class::State) => ("state", "0 to 31"),
-        Some(Class::Unused) | None => return write!(f, "'{}' is no number from 0 to 255", plain(word)),
+    let (what, class) = match class {
+        Some(Class::Unused) | None => return write!(f, "'{}' is no number from 0 to {}", plain(word), u8::MAX),
+        Some(class @ Class::Variable) => ("variable", class),
+        Some(class @ Class::Symbol) => ("symbol", class),
+        Some(class @ Class::State) => ("state", class),
     };
-    write!(f, "'{}' is no {what}: neither the name of one nor a number from {numbers}", plain(word))
+    write!(f, "'{}' is no {what}: neither the name of one nor a number from {}", plain(word), class.numbers())
 }
 
 /// A part of a text that is no part of the format.
@@ -161,7 +161,8 @@ impl fmt::Display for UnknownSymbol {
     fn fmt(&self, f: &mut fmt::Formatter<'_>) -> fmt::Result {
         match self {
             UnknownSymbol::Word(word) => {
-                write!(f, "'{}' is no symbol: neither a name nor a number from 0 to 63", plain(word))
+                let numbers = Class::Symbol.numbers();
+                write!(f, "'{}' is no symbol: neither a name nor a number from {numbers}", plain(word))
             }
             UnknownSymbol::Character(character) => {
                 let character = plain(&character.to_string());

@@ -19,7 +19,8 @@
 //! A record has the fields that its kind uses: one of E, I, F and S, two of U, three of P and T. The zeros of a job's record behind them may be written
 //! out, as in `S 0 0 0`.
 //!
-//! A line `L HEAD SYMBOL ...` is a rule with a body of up to eight symbols. A text with one spells a [long job](crate::long).
+//! A line `L HEAD SYMBOL ...` is a rule with a body of up to eight symbols. A text with one spells a [long job](crate::long), and [`Text::ordinary`] gives
+//! the job of any text.
 //!
 //! A line `form SYMBOL ...` asks about a form, spelled as [`Names::form`] reads it. In it a `#` before a digit starts no comment.
 mod error;
@@ -31,11 +32,12 @@ mod words;
 
 pub use error::{Problem, Span, TextError, UnknownSymbol};
 pub use names::Names;
-pub use parse::{names, read, FormLine, RecordPlace, Text};
+pub use parse::{names, read, FormLine, RecordPlace, Text, MOST_ERRORS};
 pub use print::{disassemble, long_spelling, print, spelling};
-pub use words::plain;
+pub use words::{ordinal, plain};
 
-/// The job that a text spells, or the long job where a line has the kind L. The job itself is not checked.
+/// The job that a text spells, or the long job where a line has the kind L. The job itself is not checked. [`Text::ordinary`] gives a job in either
+/// case.
 ///
 /// ```
 /// use ropeclover::text::assemble;
@@ -45,10 +47,10 @@ pub use words::plain;
 /// ```
 ///
 /// # Errors
-/// The first thing in the text that is no part of the format; [`read`] gives all of them.
+/// The first thing in the text that is no part of the format; [`read`] gives more of them.
 pub fn assemble(text: &str) -> Result<Vec<u8>, TextError> {
     match read(text) {
-        Ok(text) => Ok(text.job),
+        Ok(text) => Ok(text.bytes),
         Err(mut errors) => Err(errors.remove(0)),
     }
 }

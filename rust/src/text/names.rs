@@ -117,7 +117,7 @@ impl Names {
     /// use ropeclover::{long, text};
     /// let read = text::read("name 0 memory\nname 2 old\nS memory\nL memory 32 1 33 1\nU 1 34\nI 0\n").unwrap();
     /// let mut names = read.names;
-    /// names.name_tails(&long::tails(&read.job, &long::binarized(&read.job).unwrap()));
+    /// names.name_tails(&long::tails(&read.bytes, &long::binarized(&read.bytes).unwrap()));
     /// assert_eq!((names.symbol(2), names.symbol(3)), ("memory.2".into(), "memory.3".into()));
     /// ```
     pub fn name_tails(&mut self, tails: &[Tail]) {

@@ -3,8 +3,8 @@ use super::error::{Problem, Span, TextError};
 use super::names::{number, Names};
 use super::words::{is_name, words, Word};
 use crate::format::{self, Class};
-use crate::long::{self, LongRecord};
-use crate::{BODY_SYMBOLS, LONG_RECORD_BYTES};
+use crate::long::{self, LongRecord, Ordinary};
+use crate::{Refusal, BODY_SYMBOLS, LONG_RECORD_BYTES, RECORDS, RECORD_BYTES, STATES, SYMBOLS};
 use std::collections::BTreeSet;
 
 /// Where a record stands in its text.
@@ -43,19 +43,19 @@ pub struct FormLine {
 ///
 /// ```
 /// let text = ropeclover::text::read("name 0 go\nS go\nE go\n").unwrap();
-/// assert_eq!(text.job, b"S\0\0\0E\0\0\0");
+/// assert_eq!(text.bytes, b"S\0\0\0E\0\0\0");
 /// assert_eq!(text.names.symbol(0), "go");
 /// assert_eq!(text.records.len(), 2);
 /// ```
 #[derive(Clone, Debug, Default, PartialEq, Eq)]
 pub struct Text {
-    /// The job that it spells, in records of four bytes, or of twelve where it is a long one.
-    pub job: Vec<u8>,
+    /// The records that it spells, of four bytes each, so a job; or of twelve, where it is long. [`Text::ordinary`] gives a job in either case.
+    pub bytes: Vec<u8>,
     /// Whether it spells a [long job](crate::long), as it has a line of kind L.
     pub is_long: bool,
     /// The names that it gives.
     pub names: Names,
-    /// Where each record of the job stands.
+    /// Where each record stands; of more than [`RECORDS`], which every call refuses, the first that is one too many is the last.
     pub records: Vec<RecordPlace>,
     /// The forms that it asks about, in order.
     pub forms: Vec<FormLine>,
@@ -77,6 +77,28 @@ fn used(job: &[u8], size: usize, classes: &[Class]) -> BTreeSet<u8> {
 }
 
 impl Text {
+    /// The ordinary job of the text, and its names. Where the text is long, that is the job that [`binarize`](crate::binarize) writes, and the variables
+    /// that this takes are named by what they stand for. Any other text's job is what it spells; it is not checked.
+    ///
+    /// ```
+    /// use ropeclover::{text, Workspace};
+    ///
+    /// let text = text::read("name 0 memory\nname 1 digit\nS memory\nL memory 32 digit 33 digit\nU digit 34\nI 0\n").unwrap();
+    /// let ordinary = text.ordinary().unwrap();
+    /// assert!(!Workspace::new().report(&ordinary.job).unwrap().empty);
+    /// // memory.3 is the end of memory's body from its third symbol on.
+    /// assert_eq!(text::spelling(*b"P\x02\x01\x03", &ordinary.names).join(" "), "P memory.2 digit memory.3");
+    /// ```
+    ///
+    /// # Errors
+    /// All refusals of [`binarize`](crate::binarize) but 13, of a long text; their records are those of the text.
+    pub fn ordinary(&self) -> Result<Ordinary, Refusal> {
+        match self.is_long {
+            true => long::ordinary(&self.bytes, &self.names),
+            false => Ok(Ordinary { job: self.bytes.clone(), names: self.names.clone(), fresh: Vec::new() }),
+        }
+    }
+
     /// The names that no record uses, by itself or by its number: of symbols, then of states.
     ///
     /// ```
@@ -84,9 +106,9 @@ impl Text {
     /// assert_eq!(text.unused_names(), ["old", "begin"]);
     /// ```
     pub fn unused_names(&self) -> Vec<&str> {
-        let size = if self.is_long { LONG_RECORD_BYTES } else { 4 };
-        let symbols = used(&self.job, size, &[Class::Variable, Class::Symbol]);
-        let states = used(&self.job, size, &[Class::State]);
+        let size = if self.is_long { LONG_RECORD_BYTES } else { RECORD_BYTES };
+        let symbols = used(&self.bytes, size, &[Class::Variable, Class::Symbol]);
+        let states = used(&self.bytes, size, &[Class::State]);
         let symbols =
             (0..64).filter(|symbol| !symbols.contains(symbol)).filter_map(|symbol| self.names.symbol_name(symbol));
         let states = (0..32).filter(|state| !states.contains(state)).filter_map(|state| self.names.state_name(state));
@@ -116,21 +138,55 @@ impl Line<'_> {
     }
 }
 
-/// The lines that have words, and the strings that do not end.
-fn lines(text: &str) -> (Vec<Line<'_>>, Vec<TextError>) {
-    let (mut lines, mut errors) = (Vec::new(), Vec::new());
+/// The lines that have words, or the error of a string that does not end. Each is made when it is asked for: of a long text there may be millions.
+fn lines(text: &str) -> impl Iterator<Item = Result<Line<'_>, TextError>> {
     // A byte order mark is no part of the first word.
-    for (at, line) in text.strip_prefix('\u{feff}').unwrap_or(text).lines().enumerate() {
-        match words(line) {
-            Ok(words) if words.is_empty() => {}
-            Ok(words) => lines.push(Line { number: at + 1, words }),
-            Err(start) => {
-                let span = Span { line: at + 1, start, end: line.len() };
-                errors.push(TextError { span, problem: Problem::OpenString });
-            }
+    let numbered = (1..).zip(text.strip_prefix('\u{feff}').unwrap_or(text).lines());
+    numbered.filter_map(|(number, line)| match words(line) {
+        Ok(words) if words.is_empty() => None,
+        Ok(words) => Some(Ok(Line { number, words })),
+        Err(start) => {
+            let span = Span { line: number, start, end: line.len() };
+            Some(Err(TextError { span, problem: Problem::OpenString }))
+        }
+    })
+}
+
+/// The most errors that [`read`] gives: those of the first lines that are malformed.
+///
+/// ```
+/// use ropeclover::text::{read, MOST_ERRORS};
+/// assert_eq!(read(&"wrong\n".repeat(MOST_ERRORS + 1)).unwrap_err().len(), MOST_ERRORS);
+/// ```
+pub const MOST_ERRORS: usize = 1_000;
+
+/// Errors by their lines, at most so many as are given.
+#[derive(Default)]
+struct Errors(Vec<TextError>);
+
+impl Errors {
+    fn is_full(&self) -> bool {
+        self.0.len() == MOST_ERRORS
+    }
+
+    fn take(&mut self, error: TextError) {
+        if !self.is_full() {
+            self.0.push(error);
         }
     }
-    (lines, errors)
+
+    /// The value that was found; an error is taken.
+    fn keep<T>(&mut self, found: Result<T, TextError>) -> Option<T> {
+        found.map_err(|error| self.take(error)).ok()
+    }
+
+    /// The first of these errors and others.
+    fn with(mut self, others: Errors) -> Vec<TextError> {
+        self.0.extend(others.0);
+        self.0.sort_by_key(|error| error.span.line);
+        self.0.truncate(MOST_ERRORS);
+        self.0
+    }
 }
 
 /// The names read so far, each with its place.
@@ -170,24 +226,24 @@ fn take_name(
 /// assert_eq!(ropeclover::text::names("name 3 memory\nS memry\n").symbol(3), "memory");
 /// ```
 pub fn names(text: &str) -> Names {
-    named(&lines(text).0, &mut Vec::new())
+    named(text).0
 }
 
-/// The names of all name lines.
-fn named(lines: &[Line<'_>], errors: &mut Vec<TextError>) -> Names {
-    let mut named = Named::default();
-    for line in lines {
+/// The names of all name lines, and what is wrong with such lines.
+fn named(text: &str) -> (Names, Errors) {
+    let (mut named, mut errors) = (Named::default(), Errors::default());
+    for line in lines(text).flatten() {
         let taken = match line.words[0].text {
-            "name" => take_name(line, 64, Problem::NoSymbol, &mut named.symbols),
-            "state" => take_name(line, 32, Problem::NoState, &mut named.states),
+            "name" => take_name(&line, SYMBOLS as u8, Problem::NoSymbol, &mut named.symbols),
+            "state" => take_name(&line, STATES as u8, Problem::NoState, &mut named.states),
             _ => Ok(()),
         };
-        errors.extend(taken.err());
+        errors.keep(taken);
     }
     let mut names = Names::default();
     named.symbols.iter().for_each(|(symbol, name, _)| names.name_symbol(*symbol, name));
     named.states.iter().for_each(|(state, name, _)| names.name_state(*state, name));
-    names
+    (names, errors)
 }
 
 /// The number that a field spells: itself, or what its name stands for in the field's class.
@@ -253,39 +309,67 @@ fn form(line: &Line<'_>, names: &Names) -> Result<FormLine, TextError> {
 ///
 /// ```
 /// let text = ropeclover::text::read("name 32 \"a\"\nS 0\nU 0 \"a\"\n").unwrap();
-/// assert_eq!(text.job, b"S\0\0\0U\0\x20\0");
+/// assert_eq!(text.bytes, b"S\0\0\0U\0\x20\0");
 /// ```
 ///
 /// # Errors
-/// Everything in the text that is no part of the format, by lines.
+/// What in the text is no part of the format, an error a line, by lines; at most [`MOST_ERRORS`].
 pub fn read(text: &str) -> Result<Text, Vec<TextError>> {
-    let (lines, mut errors) = lines(text);
-    let names = named(&lines, &mut errors);
-    let mut found = Text { names, ..Text::default() };
-    let mut records = Vec::new();
-    for line in &lines {
+    let (names, name_errors) = named(text);
+    let (mut found, mut errors) = (Text { names, ..Text::default() }, Errors::default());
+    let mut records: Vec<LongRecord> = Vec::new();
+    for line in lines(text) {
+        if errors.is_full() {
+            break;
+        }
+        let Some(line) = errors.keep(line) else { continue };
         match line.words[0].text {
             "name" | "state" => {}
-            "form" => match form(line, &found.names) {
-                Ok(form) => found.forms.push(form),
-                Err(error) => errors.push(error),
-            },
-            _ => match record(line, &found.names) {
-                Ok(record) => {
-                    records.push(record);
+            "form" => found.forms.extend(errors.keep(form(&line, &found.names))),
+            _ => {
+                let Some(record) = errors.keep(record(&line, &found.names)) else { continue };
+                records.push(record);
+                if found.records.len() <= RECORDS {
                     let words = line.words.iter().map(|word| line.span(word)).collect();
                     found.records.push(RecordPlace { line: line.number, words });
                 }
-                Err(error) => errors.push(error),
-            },
+            }
         }
     }
-    if errors.is_empty() {
-        found.is_long = records.iter().any(|record| record[0] == long::KIND);
-        let size = if found.is_long { LONG_RECORD_BYTES } else { 4 };
-        found.job = records.iter().flat_map(|record| &record[..size]).copied().collect();
-        return Ok(found);
+    let errors = name_errors.with(errors);
+    if !errors.is_empty() {
+        return Err(errors);
     }
-    errors.sort_by_key(|error| error.span.line);
-    Err(errors)
+    found.is_long = records.iter().any(|record| record[0] == long::KIND);
+    let size = if found.is_long { LONG_RECORD_BYTES } else { RECORD_BYTES };
+    found.bytes = records.iter().flat_map(|record| &record[..size]).copied().collect();
+    Ok(found)
+}
+
+#[cfg(test)]
+mod tests {
+    use super::{read, MOST_ERRORS};
+    use crate::RECORDS;
+
+    /// The errors of names are found in a walk of their own, and the first of all are given.
+    #[test]
+    fn the_first_errors_are_given() {
+        for lines in ["name 64 x\nfoo\n", "foo\nS 0\nstate 32 x\nU 0 \"a\n"] {
+            let errors = read(&lines.repeat(MOST_ERRORS)).unwrap_err();
+            let malformed = |(_, line): &(usize, &str)| *line != "S 0";
+            let expected = (1..).zip(lines.lines().cycle()).filter(malformed).map(|(number, _)| number);
+            let found: Vec<usize> = errors.iter().map(|error| error.span.line).collect();
+            assert_eq!(found, expected.take(MOST_ERRORS).collect::<Vec<usize>>());
+        }
+    }
+
+    /// Every record is read, however many there are; of those past the longest job only the first has a place.
+    #[test]
+    fn places_of_records() {
+        for records in [RECORDS - 1, RECORDS, RECORDS + 1, RECORDS + 9] {
+            let text = read(&"S 0\n".repeat(records)).unwrap();
+            assert_eq!((text.bytes.len(), text.records.len()), (4 * records, records.min(RECORDS + 1)));
+            assert_eq!(text.records.last().unwrap().line, text.records.len());
+        }
+    }
 }

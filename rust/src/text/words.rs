@@ -105,6 +105,24 @@ pub fn plain(text: &str) -> String {
     short
 }
 
+/// A number that counts in order, for a message.
+///
+/// ```
+/// use ropeclover::text::ordinal;
+/// assert_eq!([1, 22, 103, 257].map(ordinal), ["1st", "22nd", "103rd", "257th"]);
+/// assert_eq!([11, 112, 4_013].map(ordinal), ["11th", "112th", "4013th"]);
+/// ```
+pub fn ordinal(number: usize) -> String {
+    let ending = match (number % 10, number % 100) {
+        (_, 11..=13) => "th",
+        (1, _) => "st",
+        (2, _) => "nd",
+        (3, _) => "rd",
+        _ => "th",
+    };
+    format!("{number}{ending}")
+}
+
 #[cfg(test)]
 mod tests {
     use super::{is_name, words};

@@ -63,14 +63,14 @@ impl Run {
         let (b, r) = (&mut self.expected_bits[..], &mut self.expected_reasons[..]);
         match random.below(8) {
             0 => {
-                let found = refusal(ropeclover::start_bits(&self.job, bits, reasons));
+                let found = refusal(ropeclover::bits::start(&self.job, bits, reasons));
                 assert_eq!(found, bits::start(&self.job, b, r));
                 met.started += u64::from(found.is_ok());
                 met.refused += u64::from(found.is_err());
             }
             1..=4 => {
                 let n = steps(random);
-                let found = refusal(ropeclover::advance_bits(&self.job, bits, reasons, n));
+                let found = refusal(ropeclover::bits::advance(&self.job, bits, reasons, n));
                 let found = found.map(|a| (a.finished, a.steps, a.meetings));
                 assert_eq!(found, bits::advance(&self.job, b, r, n));
                 let (finished, steps, meetings) = found.unwrap_or_default();
@@ -80,11 +80,11 @@ impl Run {
             }
             5 | 6 => {
                 let form = self.pairs.form(random, &self.job);
-                let found = refusal(ropeclover::ask_bits(&self.job, bits, &form));
+                let found = refusal(ropeclover::bits::ask(&self.job, bits, &form));
                 assert_eq!(found, bits::ask(&self.job, b, &form));
                 met.accepted += u64::from(found == Ok(true));
             }
-            _ => assert_eq!(refusal(ropeclover::done_count(bits)), bits::done_count(b)),
+            _ => assert_eq!(refusal(ropeclover::bits::done_count(bits)), bits::done_count(b)),
         }
         self.compare();
     }

@@ -4,7 +4,7 @@ use super::bits_run::halves;
 use super::jobs::{self, Pairs};
 use super::run::reasons;
 use super::Random;
-use ropeclover::{advance, advance_bits, start, start_bits, Advanced};
+use ropeclover::{advance, bits, start, Advanced};
 
 /// The two tables, each with its reasons.
 pub struct Both {
@@ -54,12 +54,12 @@ impl Both {
     pub fn start(&mut self) {
         let states = start(&self.job, &mut self.table, &mut self.table_reasons);
         assert!(states.is_ok());
-        assert_eq!(start_bits(&self.job, &mut self.bits, &mut self.bits_reasons), states);
+        assert_eq!(bits::start(&self.job, &mut self.bits, &mut self.bits_reasons), states);
     }
 
     pub fn advance(&mut self, n: u64) -> Advanced {
         let advanced = advance(&self.job, &mut self.table, &mut self.table_reasons, n).unwrap();
-        assert_eq!(advance_bits(&self.job, &mut self.bits, &mut self.bits_reasons, n), Ok(advanced));
+        assert_eq!(bits::advance(&self.job, &mut self.bits, &mut self.bits_reasons, n), Ok(advanced));
         advanced
     }
 
