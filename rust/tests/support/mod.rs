@@ -1,5 +1,7 @@
 //! What the tests share: random numbers and jobs, and a machine written apart from the library, straight from the specification.
 #![allow(dead_code)]
+pub mod abnf;
+pub mod abnf_texts;
 pub mod bits;
 pub mod bits_run;
 pub mod both;

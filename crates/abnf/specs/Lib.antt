@@ -1,0 +1,6 @@
+pub mod Bytes
+pub mod Text
+pub mod Pieces
+pub mod Reading
+pub mod Meaning
+pub mod Theorems

@@ -1,0 +1,4 @@
+pub mod Stepping
+pub mod HeadLaws
+pub mod AfterLaws
+pub mod LiteralLaws
