@@ -4,7 +4,7 @@
  * nothing changes: where A -> X or A -> X Y is a rule and its right side leads from state q to state r, the transition (q, A, r) is added; where
  * A -> empty is a rule, (q, A, q). Then a string of symbols, a form, leads from the initial state to a final one if, and only if, it derives a
  * string that the given automaton reads. The library also tells which symbols are useless, whether the language is empty and whether it grows, and
- * it writes a grammar without its useless rules, in a spelling that does not depend on how the job spells it.
+ * it writes a grammar without its useless rules, in a spelling that does not depend on how the job spells it. And it reads grammars from ABNF text.
  *
  * Platform: x86-64 Linux. Link with -lropeclover (pkg-config ropeclover).
  *
@@ -31,7 +31,7 @@
  *
  * A pointer is never NULL, not even where its length is 0. No two buffers may overlap. The library allocates nothing, keeps nothing between
  * calls, and may be called from any thread on memory that no other thread uses meanwhile. It needs less than 128 KiB of stack. Answers do not
- * depend on the order of the records, but that a long job is written in the order read.
+ * depend on the order of the records, but that a long job is written, and the names of a text are numbered, in the order read.
  *
  * LONG BODIES
  *
@@ -39,6 +39,25 @@
  * bytes: those of an ordinary job padded with eight zeros, but that a rule may also be
  *
  *   L  A n X1 .. X8 0    rule A -> X1 .. Xn, symbols: n is 0 to 8, and the bytes past Xn are 0
+ *
+ * ABNF TEXT
+ *
+ * A grammar may also be given in ABNF, the notation of RFC 5234, which ropeclover_read_abnf makes a job of. A text is lines that end by CR and LF, each
+ * of them one rule:
+ *
+ *   tune = "FA" digits / %x46.42 digits  ; a comment may end a line
+ *   tune =/ "FR" digit
+ *   digits = digit / digit digits
+ *   digit = "0" / "1"
+ *
+ * A name is a letter, then letters, digits and dashes, without regard to case. Its first rule has =, each other one below has =/ and adds to it. A rule
+ * has alternatives between slashes; an alternative has elements, with blanks or tabs between them: names, strings in quotes, and values, as %x46 or
+ * %x46.42 in hexadecimal. Blanks and tabs may also stand around = and =/ and slashes, and behind the last element. For a letter in a string either case
+ * serves, and "" is the empty string; a value stands for these very characters, letters or not. No name has a rule unless the text gives one, so ALPHA
+ * and DIGIT have none.
+ *
+ * The rest of the RFC is outside: groups, options, repetition, ranges, prose values, values above FF or in another base, an empty text, and lines that
+ * have no rule or go on with the one before. So are the strings of RFC 7405, as %s"x".
  *
  * THE LENT MEMORY
  *
@@ -128,6 +147,7 @@ extern "C" {
 #define ROPECLOVER_BIT_TABLE_BYTES 16384
 #define ROPECLOVER_REASONS 32768
 #define ROPECLOVER_CODES 64
+#define ROPECLOVER_MAP_BYTES 32
 
 /* The bytes of a half of the bit table: the done half begins here. */
 #define ROPECLOVER_HALF_BYTES 8192
@@ -156,8 +176,11 @@ extern "C" {
 #define ROPECLOVER_LONG_RECORD_BYTES 12
 #define ROPECLOVER_BODY_SYMBOLS 8
 
-/* The longest clean copy: an S record and ROPECLOVER_RULES rules. */
+/* The longest clean copy, and the longest job of an ABNF text: an S record and ROPECLOVER_RULES rules. */
 #define ROPECLOVER_COPY_BYTES 1028
+
+/* The longest ABNF text. */
+#define ROPECLOVER_ABNF_BYTES 16384
 
 /* Room for every function's answer. */
 #define ROPECLOVER_ANSWER_NUMBERS 5
@@ -174,7 +197,8 @@ enum ropeclover_answer {
     ROPECLOVER_RECORDS_LISTED = 3,      /* explain */
     ROPECLOVER_IS_EMPTY = 2,            /* verdicts */
     ROPECLOVER_IS_GROWING = 3,
-    ROPECLOVER_RECORDS_WRITTEN = 2,     /* binarize, clean */
+    ROPECLOVER_RECORDS_WRITTEN = 2,     /* binarize, clean, read ABNF */
+    ROPECLOVER_CHARACTERS_USED = 3,     /* read ABNF */
     ROPECLOVER_DONE_TRANSITIONS = 2,    /* done count */
     ROPECLOVER_SHOWN_OFFSET = 0,        /* showing, whose answer has no refusal */
     ROPECLOVER_SHOWN_LENGTH = 1
@@ -185,25 +209,28 @@ enum ropeclover_answer {
 
 /* Refusals, in the order of the checks; 3 to 7 are tried in that order on each record before the next. With 3 to 7, 14 and 15 the place is the
  * record's number, from 0. A refused call leaves all lent memory as it was, but for ropeclover_explain's 13: then table and reasons are as after a
- * success. ropeclover_binarize has an order of its own. */
+ * success. ropeclover_binarize and ropeclover_read_abnf have orders of their own. */
 enum ropeclover_refusal {
     ROPECLOVER_ACCEPTED = 0,
-    ROPECLOVER_SHORT_BUFFER = 10,       /* the place is 1 for the table or bit table, 2 for the reasons, 3 for the codes */
-    ROPECLOVER_JOB_TOO_LONG = 2,        /* over ROPECLOVER_JOB_BYTES; the place is the job's length */
+    ROPECLOVER_SHORT_BUFFER = 10,       /* the place is 1 for the table or bit table, 2 for the reasons, 3 for the codes or the map */
+    ROPECLOVER_JOB_TOO_LONG = 2,        /* over ROPECLOVER_JOB_BYTES, a text over ROPECLOVER_ABNF_BYTES; the place is the length */
     ROPECLOVER_PARTIAL_RECORD = 1,      /* the length is no multiple of 4; the place is the number of whole records */
     ROPECLOVER_UNKNOWN_KIND = 3,
     ROPECLOVER_FIELD_OUTSIDE_CLASS = 4,
     ROPECLOVER_REPEATED = 5,            /* the same four bytes stand in an earlier record */
     ROPECLOVER_SECOND = 6,              /* a second S or a second I */
-    ROPECLOVER_TOO_MANY_RULES = 7,      /* the 257th rule */
+    ROPECLOVER_TOO_MANY_RULES = 7,      /* the 257th rule. By ropeclover_read_abnf the place is 257 */
     ROPECLOVER_NO_START = 8,            /* no S record; the place is the number of records */
     ROPECLOVER_NO_INITIAL = 9,          /* no I record; the place is the number of records. Never by ropeclover_verdicts and ropeclover_clean */
     ROPECLOVER_FORM_TOO_LONG = 12,      /* over ROPECLOVER_FORM_SYMBOLS; the place is the form's length */
     ROPECLOVER_NO_SYMBOL = 11,          /* a byte of the form is over 63; the place is its position */
     ROPECLOVER_LISTING_TOO_SHORT = 13,  /* the place is the number of listing records needed. Only by ropeclover_explain */
-    ROPECLOVER_JOB_TOO_SHORT = 13,      /* the place is the number of records needed. Only by ropeclover_binarize and ropeclover_clean */
+    ROPECLOVER_JOB_TOO_SHORT = 13,      /* the place is the number of records needed. Only by functions that write a job */
     ROPECLOVER_TOO_FEW_VARIABLES = 14,  /* the record takes more variables than are free. Only by ropeclover_binarize, as the next */
-    ROPECLOVER_ILL_PADDED = 15          /* a length over ROPECLOVER_BODY_SYMBOLS, or a padding or closing byte that is not 0 */
+    ROPECLOVER_ILL_PADDED = 15,         /* a length over ROPECLOVER_BODY_SYMBOLS, or a padding or closing byte that is not 0 */
+    ROPECLOVER_OUTSIDE_ABNF = 16,       /* the text leaves the part of ABNF that is read; the place is the offset. Only by ropeclover_read_abnf */
+    ROPECLOVER_NAME_OUT_OF_PLACE = 17,  /* a name has no rule, or the wrong one of = and =/; the place is its offset. Only by it, as the next */
+    ROPECLOVER_TOO_MANY_SYMBOLS = 18    /* the place is 1 for over ROPECLOVER_VARIABLES variables, else 2 for over 32 characters */
 };
 
 /* A table byte. */
@@ -293,6 +320,30 @@ void ropeclover_binarize(const uint8_t *long_job, size_t long_job_len, uint8_t *
  * The buffer past the copy is left as it was. 13 is the last check. answer[2]: the number of records written. */
 void ropeclover_clean(const uint8_t *job, size_t job_len, uint8_t *out, size_t out_len, uint64_t answer[3]);
 
+/* Reads a grammar from ABNF text: writes its job, and the map from the job's terminals to characters.
+ *
+ * The characters that the text uses, both cases of each letter of a string included, are the terminals from 32 on in ascending order: map[i] is the
+ * character of terminal 32 + i, and past the last the map is 0. 0 may be a character itself, so the number of them says where they end. The names are
+ * the variables from 0 on in the order in which they first begin a line, and the first of them is the start symbol. Behind them further variables are
+ * taken, alternative after alternative as the text has them: first one for each letter of its strings that has none yet, left to right, which gets a U
+ * record for the capital and one for the small letter; then for the tails of the alternative, as by ropeclover_binarize, never shared, not even by equal
+ * alternatives. Other characters stand in rules as they are. The job is an S record and then the rules by their ranks, each once; it has no T, I and F
+ * records.
+ *
+ * The strings of terminals that the start symbol derives, read through the map, are those that the first name of the text derives by the RFC; so it is
+ * for each name and its variable. The job is accepted by ropeclover_verdicts, and ROPECLOVER_COPY_BYTES are always enough for it. All this is proved.
+ *
+ * ROPECLOVER_MAP_BYTES of the map and the records of the job are written; past them both are left as they were. answer[2]: the number of records
+ * written; answer[3]: the number of characters.
+ *
+ * The checks in their order: 10, place 3, for a map under ROPECLOVER_MAP_BYTES; 2 for a text over ROPECLOVER_ABNF_BYTES, with its length; 16 with the
+ * offset of the first byte outside the part that is read, of a string or a value its first, and the text's length where its end is missing; 17 with
+ * the offset of the first name that has no rule, that begins a rule by =/ with no = above it, or by = with one above; 18, place 1, where more than
+ * ROPECLOVER_VARIABLES variables would be taken, or else place 2, where more than 32 characters are used; 7, place 257, where there are more than
+ * ROPECLOVER_RULES rules; 13. */
+void ropeclover_read_abnf(const uint8_t *text, size_t text_len, uint8_t *map, size_t map_len, uint8_t *job, size_t job_len,
+                          uint64_t answer[4]);
+
 /* The record that the job is refused for by 3 to 7, as a part of the job. answer[0]: its offset in bytes; answer[1]: its length, 4; both are 0
  * where there is none. (This answer has no refusal.) */
 void ropeclover_show(const uint8_t *job, size_t job_len, uint64_t answer[2]);
@@ -309,7 +360,7 @@ static inline const char *ropeclover_refusal_text(uint64_t number)
     switch (number) {
     case ROPECLOVER_ACCEPTED: return "accepted";
     case ROPECLOVER_PARTIAL_RECORD: return "the length is no whole number of records";
-    case ROPECLOVER_JOB_TOO_LONG: return "the job has too many bytes";
+    case ROPECLOVER_JOB_TOO_LONG: return "the job or the text has too many bytes";
     case ROPECLOVER_UNKNOWN_KIND: return "a record has an unknown kind letter";
     case ROPECLOVER_FIELD_OUTSIDE_CLASS: return "a field is outside its class";
     case ROPECLOVER_REPEATED: return "a record stands twice";
@@ -323,6 +374,9 @@ static inline const char *ropeclover_refusal_text(uint64_t number)
     case ROPECLOVER_LISTING_TOO_SHORT: return "the buffer that is written to is too short";
     case ROPECLOVER_TOO_FEW_VARIABLES: return "a long rule takes more variables than are free";
     case ROPECLOVER_ILL_PADDED: return "a record of a long job is not padded by zeros";
+    case ROPECLOVER_OUTSIDE_ABNF: return "the text leaves the part of ABNF that is read";
+    case ROPECLOVER_NAME_OUT_OF_PLACE: return "a name has no rule, or a rule has the wrong one of '=' and '=/'";
+    case ROPECLOVER_TOO_MANY_SYMBOLS: return "the text takes too many variables or characters";
     default: return "an unknown refusal";
     }
 }

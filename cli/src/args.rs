@@ -1,10 +1,11 @@
 //! The command line.
+use crate::word::Word;
 use clap::{Parser, Subcommand, ValueEnum, ValueHint};
 use std::path::PathBuf;
 
 const AFTER_HELP: &str = "\
 FILE holds a job or its text (a job has zero bytes, a text has none); '-' or none is standard input. A text with L lines, and a long job, are \
-written as an ordinary job first.
+written as an ordinary job first. A FILE whose name ends in .abnf, and with --abnf any, is ABNF text.
 
 Exit status: 0 done; 1 the job is refused, the text is malformed, or two runs differ; 2 bad usage, or input or output failed.
 
@@ -29,6 +30,7 @@ pub enum Command {
     Disassemble(Disassemble),
     Binarize(Binarize),
     Clean(Clean),
+    Read(Read),
     Completions(Completions),
 }
 
@@ -42,12 +44,25 @@ pub enum Format {
     Json,
 }
 
+/// The option for files that are ABNF text though their names do not say so.
+#[derive(Clone, Copy, Debug, clap::Args)]
+pub struct Dialect {
+    /// FILE is ABNF text, whatever its name
+    #[arg(long)]
+    pub abnf: bool,
+}
+
 /// Report whether the start symbol is accepted, the language empty, growing
 #[derive(Debug, clap::Args)]
 pub struct Report {
-    /// Jobs or their texts
+    /// Jobs, their texts or ABNF texts
     #[arg(value_name = "FILE")]
     pub files: Vec<PathBuf>,
+    #[command(flatten)]
+    pub dialect: Dialect,
+    /// Of ABNF text: the word that the automaton reads, as 'FA;' or 'FA%x0D', of up to 31 characters
+    #[arg(long, value_name = "TEXT", value_hint = ValueHint::Other)]
+    pub word: Option<Word>,
     /// How to write the answer
     #[arg(long, value_enum, default_value_t)]
     pub format: Format,
@@ -56,9 +71,11 @@ pub struct Report {
 /// List the symbols by kind: useful, derives no string, never reached
 #[derive(Debug, clap::Args)]
 pub struct Codes {
-    /// Jobs or their texts
+    /// Jobs, their texts or ABNF texts
     #[arg(value_name = "FILE")]
     pub files: Vec<PathBuf>,
+    #[command(flatten)]
+    pub dialect: Dialect,
     /// List the symbols that no rule names, too
     #[arg(long)]
     pub all: bool,
@@ -77,11 +94,16 @@ A SYMBOL is a name of the text, a character, a string in double quotes that the 
 that is no name itself stands for its characters; '\"\"' is the empty form. A character is the symbol with this name, in quotes, or the one whose name \
 is a range that holds it, as \"0-9\". Without a SYMBOL the start symbol is explained. To read standard input, write '-'.")]
 pub struct Explain {
-    /// A job or its text
+    /// A job, its text or ABNF text
     pub file: Option<PathBuf>,
     /// The symbols of the form
     #[arg(value_name = "SYMBOL")]
     pub symbols: Vec<String>,
+    #[command(flatten)]
+    pub dialect: Dialect,
+    /// Of ABNF text: the word that the automaton reads, as 'FA;' or 'FA%x0D', of up to 31 characters
+    #[arg(long, value_name = "TEXT", value_hint = ValueHint::Other)]
+    pub word: Option<Word>,
     /// Print an indented tree for each step of the form
     #[arg(long, conflicts_with_all = ["dot", "format"])]
     pub tree: bool,
@@ -99,9 +121,14 @@ pub struct Explain {
 /// Check jobs twice, plain and with their records shuffled; fail if the two differ
 #[derive(Debug, clap::Args)]
 pub struct Nightly {
-    /// Jobs or their texts
+    /// Jobs, their texts or ABNF texts
     #[arg(value_name = "FILE")]
     pub files: Vec<PathBuf>,
+    #[command(flatten)]
+    pub dialect: Dialect,
+    /// Of ABNF texts: a word that the automaton reads, as 'FA;' or 'FA%x0D', of up to 31 characters; may be repeated
+    #[arg(long = "word", value_name = "TEXT", value_hint = ValueHint::Other)]
+    pub words: Vec<Word>,
     /// Steps made at a time
     #[arg(long, value_name = "N", default_value_t = 16384, value_parser = clap::value_parser!(u64).range(1..), value_hint = ValueHint::Other)]
     pub steps: u64,
@@ -125,22 +152,28 @@ pub struct Nightly {
 /// Write the job of a text; a long job where a line has the kind L
 #[derive(Debug, clap::Args)]
 pub struct Assemble {
-    /// A text with one record a line
+    /// A text with one record a line, or ABNF text
     pub file: Option<PathBuf>,
+    #[command(flatten)]
+    pub dialect: Dialect,
 }
 
-/// Write the text of a job or a long job, with numbers
+/// Write the text of a job or a long job, with numbers; that of ABNF text with names
 #[derive(Debug, clap::Args)]
 pub struct Disassemble {
-    /// A job or a long job
+    /// A job, a long job or ABNF text
     pub file: Option<PathBuf>,
+    #[command(flatten)]
+    pub dialect: Dialect,
 }
 
 /// Write a text or a long job, whose rules have bodies of up to eight symbols, as an ordinary job
 #[derive(Debug, clap::Args)]
 pub struct Binarize {
-    /// A text or a long job
+    /// A text, a long job or ABNF text
     pub file: Option<PathBuf>,
+    #[command(flatten)]
+    pub dialect: Dialect,
     /// Write the job's text, with names, instead of its bytes
     #[arg(long)]
     pub text: bool,
@@ -152,9 +185,24 @@ pub struct Binarize {
 The copy is the start symbol and the rules that are of use, sorted, with their variables numbered from 0. T, I and F records are left out. What \
 is left out is told on standard error.")]
 pub struct Clean {
-    /// A job or its text
+    /// A job, its text or ABNF text
     pub file: Option<PathBuf>,
+    #[command(flatten)]
+    pub dialect: Dialect,
     /// Write the copy's text, with names, instead of its bytes
+    #[arg(long)]
+    pub text: bool,
+}
+
+/// Write the job of ABNF text
+#[derive(Debug, clap::Args)]
+#[command(after_help = "\
+Each rule stands on one line: a name, = or =/, and alternatives of names, strings in quotes, and values as %x41 or %x41.42, with a comment at the \
+end if need be. A line ends by CRLF or LF. The job has no automaton; report, explain and nightly take ABNF text with --word.")]
+pub struct Read {
+    /// ABNF text, whatever its name
+    pub file: Option<PathBuf>,
+    /// Write the job's text, with names, instead of its bytes
     #[arg(long)]
     pub text: bool,
 }

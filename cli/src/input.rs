@@ -1,15 +1,18 @@
 //! Input: a job, or a text that is read into one. A long job is written as an ordinary one.
+use crate::abnf::Abnf;
 use crate::args::Format;
 use crate::failure::{complain, Failure};
 use crate::form;
 use crate::quote::{self, Mark, Page};
+use crate::word::{AskedWord, Word};
 use ropeclover::format::Class;
 use ropeclover::long::{self, LongRecord, Ordinary};
 use ropeclover::text::{self, FormLine, Names, RecordPlace, Text, TextError, UnknownSymbol};
-use ropeclover::{JOB_BYTES, LONG_JOB_BYTES, LONG_RECORD_BYTES, RECORD_BYTES};
+use ropeclover::{ABNF_BYTES, JOB_BYTES, LONG_JOB_BYTES, LONG_RECORD_BYTES, RECORD_BYTES};
 use std::fmt;
 use std::fs::File;
 use std::io::{self, IsTerminal, Read};
+use std::os::unix::ffi::OsStrExt;
 use std::path::{Path, PathBuf};
 use std::slice::ChunksExact;
 
@@ -31,6 +34,10 @@ pub struct Input {
     pub fresh: Vec<u8>,
     pub names: Names,
     pub source: Option<Source>,
+    /// The ABNF text that was read, if it was one.
+    pub abnf: Option<Abnf>,
+    /// The word that its automaton reads, if it is asked about one.
+    pub word: Option<AskedWord>,
     /// The forms that a text asks about.
     pub forms: Vec<FormLine>,
     /// What there is to say of a text that can be read.
@@ -77,6 +84,16 @@ impl Input {
     pub fn record(&self, number: usize) -> Option<LongRecord> {
         let bytes = self.record_bytes(number)?;
         bytes.try_into().ok().or_else(|| Some(long::padded(bytes.try_into().ok()?)))
+    }
+
+    /// ABNF text with an automaton that reads a word alone. Any other input has an automaton of its own.
+    pub fn with_word(self, word: &Word) -> Result<Self, Failure> {
+        let Some(grammar) = self.abnf.as_ref().and_then(|abnf| abnf.grammar.as_ref()) else {
+            let message = format!("{}: --word is for ABNF text, and this has an automaton of its own", self.name);
+            return Err(Failure::Usage(format!("error: {message}\n")));
+        };
+        let job = [&grammar.job[..], &word.automaton(grammar)].concat();
+        Ok(Input { job, word: Some(AskedWord::new(word, grammar)), ..self })
     }
 }
 
@@ -193,6 +210,11 @@ fn is_standard(file: Option<&Path>) -> bool {
     file.map_or(true, |path| path == Path::new("-"))
 }
 
+/// Whether a file is ABNF text by its name.
+fn is_abnf(file: Option<&Path>) -> bool {
+    file.is_some_and(|path| path.as_os_str().as_bytes().ends_with(b".abnf"))
+}
+
 /// The inputs that files on the command line stand for: standard input where there is none.
 pub fn files(files: &[PathBuf]) -> Vec<Option<&Path>> {
     match files.is_empty() {
@@ -226,17 +248,42 @@ fn sort(mut reader: impl Read, reading: Reading) -> io::Result<Bytes> {
     Ok(sort(bytes))
 }
 
-fn read_bytes(file: Option<&Path>, reading: Reading) -> Result<Bytes, Failure> {
-    let bytes = match file {
-        Some(path) if !is_standard(file) => File::open(path).and_then(|file| sort(file, reading)),
+/// What is read from a file or standard input; a terminal is told what is due.
+fn read_with<T>(
+    file: Option<&Path>,
+    due: &str,
+    read: impl FnOnce(&mut dyn Read) -> io::Result<T>,
+) -> Result<T, Failure> {
+    let read = match file {
+        Some(path) if !is_standard(file) => File::open(path).and_then(|mut file| read(&mut file)),
         _ => {
             if io::stdin().is_terminal() {
-                complain("reading a job or its text from the terminal");
+                complain(&format!("reading {due} from the terminal"));
             }
-            sort(io::stdin().lock(), reading)
+            read(&mut io::stdin().lock())
         }
     };
-    bytes.map_err(|error| Failure::File { name: name(file), error })
+    read.map_err(|error| Failure::File { name: name(file), error })
+}
+
+fn read_bytes(file: Option<&Path>, reading: Reading) -> Result<Bytes, Failure> {
+    read_with(file, "a job or its text", |reader| sort(reader, reading))
+}
+
+/// Reads ABNF text, of which no more is read than tells that it is too long.
+pub fn read_abnf(file: Option<&Path>) -> Result<Input, Failure> {
+    let mut bytes = Vec::new();
+    read_with(file, "ABNF text", |reader| reader.take(ABNF_BYTES as u64 + 1).read_to_end(&mut bytes))?;
+    let (abnf, refusal) = Abnf::read(bytes);
+    let (job, names) = match &abnf.grammar {
+        Some(grammar) => (grammar.job.clone(), grammar.names().clone()),
+        None => Default::default(),
+    };
+    let input = Input { name: name(file), job, names, abnf: Some(abnf), ..Input::default() };
+    match refusal {
+        None => Ok(input),
+        Some(refusal) => Err(Failure::Refused { refusal, input: Box::new(input), format: Format::Text }),
+    }
 }
 
 /// The text of bytes that are UTF-8, without a byte order mark.
@@ -275,8 +322,11 @@ fn read_text(name: String, bytes: Vec<u8>) -> Result<Input, Unreadable> {
     }
 }
 
-/// Reads a job, a long job or a text, and leaves a long job as it is.
-fn read_silently(file: Option<&Path>, reading: Reading) -> Result<Input, Failure> {
+/// Reads a job, a long job or a text, and leaves a long job as it is. ABNF text is told by the file's name or by the caller.
+fn read_silently(file: Option<&Path>, reading: Reading, abnf: bool) -> Result<Input, Failure> {
+    if abnf || is_abnf(file) {
+        return read_abnf(file);
+    }
     let name = name(file);
     match read_bytes(file, reading)? {
         Bytes::Job(job) => Ok(Input::of(name, job, false)),
@@ -286,8 +336,8 @@ fn read_silently(file: Option<&Path>, reading: Reading) -> Result<Input, Failure
 }
 
 /// As [`read_silently`], and says what there is to say of the text.
-fn read_as(file: Option<&Path>, reading: Reading) -> Result<Input, Failure> {
-    let input = read_silently(file, reading)?;
+fn read_as(file: Option<&Path>, reading: Reading, abnf: bool) -> Result<Input, Failure> {
+    let input = read_silently(file, reading, abnf)?;
     input.warnings.iter().for_each(|warning| complain(warning));
     Ok(input)
 }
@@ -302,35 +352,38 @@ fn binarized(input: Input) -> Result<Input, Failure> {
 }
 
 /// Reads a job or its text, and leaves it to the caller to tell the warnings.
-pub fn read_for_later(file: Option<&Path>) -> Result<Input, Failure> {
-    binarized(read_silently(file, Reading::Job)?)
+pub fn read_for_later(file: Option<&Path>, abnf: bool) -> Result<Input, Failure> {
+    binarized(read_silently(file, Reading::Job, abnf)?)
 }
 
 /// Reads a job or its text.
-pub fn read(file: Option<&Path>) -> Result<Input, Failure> {
-    binarized(read_as(file, Reading::Job)?)
+pub fn read(file: Option<&Path>, abnf: bool) -> Result<Input, Failure> {
+    binarized(read_as(file, Reading::Job, abnf)?)
 }
 
-/// Reads a long job, or a text as one.
-pub fn read_long(file: Option<&Path>) -> Result<Input, Failure> {
-    let mut input = read_as(file, Reading::Long)?;
-    if input.long.is_none() {
+/// Reads a long job, or a text as one. The rules of ABNF text are split as it is read.
+pub fn read_long(file: Option<&Path>, abnf: bool) -> Result<Input, Failure> {
+    let mut input = read_as(file, Reading::Long, abnf)?;
+    if input.long.is_none() && input.abnf.is_none() {
         input.long = Some((0..).map_while(|number| input.record(number)).flatten().collect());
     }
     binarized(input)
 }
 
 /// Reads a text where a job is no use.
-pub fn read_text_only(file: Option<&Path>) -> Result<Input, Failure> {
-    let input = read_as(file, Reading::Job)?;
-    match input.source {
-        Some(_) => Ok(input),
-        None => Err(Unreadable::JobForText { name: input.name }.into()),
+pub fn read_text_only(file: Option<&Path>, abnf: bool) -> Result<Input, Failure> {
+    let input = read_as(file, Reading::Job, abnf)?;
+    match input.source.is_some() || input.abnf.is_some() {
+        true => Ok(input),
+        false => Err(Unreadable::JobForText { name: input.name }.into()),
     }
 }
 
-/// Reads a job or a long job where a text is no use. Empty input is the empty job.
-pub fn read_job_only(file: Option<&Path>) -> Result<Input, Failure> {
+/// Reads a job, a long job or ABNF text where a text of records is no use. Empty input is the empty job.
+pub fn read_job_only(file: Option<&Path>, abnf: bool) -> Result<Input, Failure> {
+    if abnf || is_abnf(file) {
+        return read_abnf(file);
+    }
     let name = name(file);
     match read_bytes(file, Reading::Job)? {
         Bytes::Job(job) => Ok(Input::of(name, job, false)),

@@ -2,10 +2,10 @@
 use crate::input::{self, Input, Unreadable};
 use crate::print::codes::kind;
 use crate::print::turns::Turns;
-use crate::refused;
+use crate::{abnf, refused};
 use ropeclover::listing::{Reason, Record};
 use ropeclover::text::{self, Names, TextError};
-use ropeclover::{Explanation, Refusal, Report, CODES};
+use ropeclover::{Explanation, Missing, Refusal, Report, CODES};
 use serde_json::{json, Map, Value};
 use std::io::{self, Write};
 
@@ -15,15 +15,25 @@ pub fn write(output: &mut dyn Write, value: &Value) -> io::Result<()> {
     writeln!(output)
 }
 
-pub fn report(report: &Report) -> Value {
-    json!({
+pub fn report(report: &Report, input: &Input) -> Value {
+    let answer = json!({
         "states": report.states,
         "examined": report.examined,
         "joins": report.joins,
         "start": report.start,
         "empty": report.empty,
         "growing": report.growing,
-    })
+    });
+    about_word(answer, input)
+}
+
+/// An answer; where it is about a word, with that and its first character that the grammar does not use.
+fn about_word(mut answer: Value, input: &Input) -> Value {
+    let Some(asked) = &input.word else { return answer };
+    let missing = |Missing { character, position }| json!({ "character": character, "position": position });
+    answer["word"] = asked.word.to_string().into();
+    answer["missing"] = asked.missing.map(missing).into();
+    answer
 }
 
 pub fn codes(codes: &[u8; CODES], names: &Names) -> Value {
@@ -58,14 +68,15 @@ fn record(record: &Record, turns: Turns<'_>) -> Value {
 
 pub fn explanation(explanation: &Explanation, input: &Input, turns: Turns<'_>) -> Value {
     let records = explanation.records.iter().map(|explained| record(explained, turns));
-    json!({
+    let answer = json!({
         "accepted": explanation.accepted,
         "form": explanation.form,
         "sequence": explanation.sequence,
         "records": records.collect::<Vec<Value>>(),
         "symbols": names(|symbol| input.names.symbol_name(symbol)),
         "states": names(|state| input.names.state_name(state)),
-    })
+    });
+    about_word(answer, input)
 }
 
 fn malformed(error: &TextError, names: &Names) -> Value {
@@ -84,7 +95,26 @@ pub fn unreadable(unreadable: &Unreadable) -> Value {
     json!({ "unreadable": { "message": unreadable.to_string(), "lines": lines } })
 }
 
+/// The refusal of an ABNF text, with the words, the column and the suggestion that people are told.
+fn refused_abnf(refusal: Refusal, input: &Input) -> Option<Value> {
+    let abnf = input.abnf.as_ref()?;
+    let told = abnf::told(refusal, abnf)?;
+    let (line, column) = told.position(&abnf.file).unzip();
+    Some(json!({ "refused": {
+        "number": refusal.number(),
+        "place": refusal.place(),
+        "message": told.message(),
+        "file": input.name,
+        "line": line,
+        "column": column,
+        "suggestion": told.suggestion,
+    } }))
+}
+
 pub fn refusal(refusal: Refusal, input: &Input) -> Value {
+    if let Some(refused) = refused_abnf(refusal, input) {
+        return refused;
+    }
     json!({ "refused": {
         "number": refusal.number(),
         "place": refusal.place(),

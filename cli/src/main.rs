@@ -1,4 +1,5 @@
 //! The command `ropeclover`.
+mod abnf;
 mod args;
 mod commands;
 mod failure;
@@ -10,6 +11,7 @@ mod output;
 mod print;
 mod quote;
 mod refused;
+mod word;
 
 use args::{Args, Command};
 use clap::Parser;
@@ -27,6 +29,7 @@ fn run(command: &Command) -> Result<(), Failure> {
         Command::Disassemble(options) => commands::disassemble(options),
         Command::Binarize(options) => commands::binarize(options),
         Command::Clean(options) => commands::clean(options),
+        Command::Read(options) => commands::read(options),
         Command::Completions(options) => commands::completions(options),
     }
 }

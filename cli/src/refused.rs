@@ -1,4 +1,5 @@
 //! What a refusal means for the input: the lines that it speaks of, and what to mend.
+use crate::abnf::{self, Abnf};
 use crate::input::Input;
 use crate::quote::{self, Mark, Page};
 use ropeclover::format::Class;
@@ -241,6 +242,15 @@ fn form_mark(refusal: Refusal, form: &[String]) -> Option<Mark> {
     }
 }
 
+/// Says on standard error why an ABNF text is refused, quoting the file.
+fn explain_abnf(code: &str, told: &abnf::Told, abnf: &Abnf, name: &str) {
+    // What stands before a place that is quoted is ASCII, so that offsets are those of the file.
+    let text = String::from_utf8_lossy(&abnf.file);
+    let marks = if text.is_empty() { vec![] } else { told.marks(&abnf.file) };
+    let headline = if marks.is_empty() { format!("{name}: {}", told.message()) } else { told.headline.clone() };
+    quote::show(&Page { name, text: &text, first_number: 1 }, Some(code), &headline, &marks, &told.notes);
+}
+
 /// Says on standard error why the input is refused.
 pub fn explain(refusal: Refusal, input: &Input) {
     let code = format!("refused {} at {}", refusal.number(), refusal.place());
@@ -248,6 +258,9 @@ pub fn explain(refusal: Refusal, input: &Input) {
         let form = input.form.join(" ");
         let page = Page { name: "form", text: &form, first_number: 1 };
         return quote::show(&page, Some(&code), &refusal.to_string(), &[mark], &[]);
+    }
+    if let Some((told, abnf)) = input.abnf.as_ref().and_then(|abnf| Some((abnf::told(refusal, abnf)?, abnf))) {
+        return explain_abnf(&code, &told, abnf, &input.name);
     }
     let lines = Lines::new(input);
     let (headline, marks) = told(refusal, &lines);

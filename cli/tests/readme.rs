@@ -3,7 +3,7 @@ mod support;
 
 use std::path::{Path, PathBuf};
 use std::process::Command;
-use support::{file, folder, run, Ran, COMMAND, MEMORY_TEXT, RADIO_TEXT};
+use support::{file, folder, run, Ran, COMMAND, MEMORY_TEXT, RADIO_ABNF, RADIO_TEXT};
 
 const README: &str = include_str!("../../README.md");
 
@@ -14,7 +14,12 @@ const TS2000_TEXT: &str = include_str!("../../examples/ts2000.txt");
 fn with_examples(test: &str) -> PathBuf {
     let folder = folder(test);
     std::fs::create_dir(folder.join("examples")).unwrap();
-    for (name, text) in [("radio.txt", RADIO_TEXT), ("memory.txt", MEMORY_TEXT), ("ts2000.txt", TS2000_TEXT)] {
+    for (name, text) in [
+        ("radio.txt", RADIO_TEXT.as_bytes()),
+        ("memory.txt", MEMORY_TEXT.as_bytes()),
+        ("ts2000.txt", TS2000_TEXT.as_bytes()),
+        ("radio.abnf", RADIO_ABNF),
+    ] {
         std::fs::write(folder.join("examples").join(name), text).unwrap();
     }
     folder
@@ -120,6 +125,49 @@ fn the_nightly_line() {
     }
     assert!(README.contains(&indented(expected)));
     assert!(folder.join("last.seen").exists());
+}
+
+/// The page shows the example as it is, its rules as they are written, and the words that answers have.
+#[test]
+fn abnf_text() {
+    let folder = with_examples("readme-abnf");
+    let example = String::from_utf8_lossy(RADIO_ABNF).replace("\r\n", "\n");
+    assert!(README.contains(&format!("This is `examples/radio.abnf`:\n\n{}\n", indented(&example))));
+    let text = typed("ropeclover read --text examples/radio.abnf", &folder).stdout;
+    let rules = ["P tone ", "U \"t\"/\"T\" \"T\"", "U \"t\"/\"T\" \"t\"", "P tone.2 "];
+    let lines: Vec<&str> = text.lines().filter(|line| rules.iter().any(|rule| line.starts_with(rule))).collect();
+    assert!(lines.len() == 4 && README.contains(&indented(&lines.join("\n"))), "{lines:?}");
+    let missing = typed("ropeclover report --word M5X examples/radio.abnf", &folder);
+    assert!(README.contains(&indented(&missing.stderr)) && missing.stdout.contains("start no\n"));
+    // What stands in a sentence, in place of a line of its own.
+    for line in ["report --word 'M5T88;' examples/radio.abnf", "explain --tree --word 'M5T88;' examples/radio.abnf"] {
+        assert!(README.contains(&format!("`ropeclover {line}`")));
+        assert_eq!(typed(&format!("ropeclover {line}"), &folder).status, Some(0));
+    }
+}
+
+/// The words of the nightly check, by hand. M5T88; is explained where words are tested. Of f14 and CR, four transitions are given; f's, two digits and
+/// three strings of digits, a frequency and a setting of one digit and of two, tone's tail, the end, the command: 17. Meetings: digits once, frequency
+/// twice, tone's tail and the command once each. Useless are old-scan, its letter's variable, S and s.
+#[test]
+fn the_words_of_the_nightly_check() {
+    let line = README.lines().find(|line| line.starts_with("    ropeclover nightly --word ")).unwrap();
+    let expected =
+        "word 'M5T88;': alike: states 7, examined 24, joins 7, start yes, empty no, growing yes, useless symbols 4\n\
+        word 'f14%x0D': alike: states 5, examined 17, joins 5, start yes, empty no, growing yes, useless symbols 4\n";
+    typed(line, &with_examples("readme-words")).prints(expected);
+    assert!(README.contains(&indented(expected)));
+}
+
+/// A rule of the example with a repetition: its line is the sixth, and the number its tenth character.
+#[test]
+fn the_refusal_of_abnf_text() {
+    let text = String::from_utf8_lossy(RADIO_ABNF).replace("digits = digit / digit digits", "digits = 1*digit");
+    let path = file("readme-refusal", "radio.abnf", text.as_bytes());
+    let ran = run(&["codes", &path], b"");
+    assert_eq!(ran.stdout, format!("refused 16 at {}\n", text.find("1*digit").unwrap()));
+    let message = ran.stderr.replace(&path, "radio.abnf");
+    assert!(README.contains(&indented(message.trim_end())), "{message}");
 }
 
 /// The variables of a text that are useful.

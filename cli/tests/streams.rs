@@ -7,7 +7,7 @@ use std::io::Write;
 use std::os::unix::ffi::OsStrExt;
 use std::os::unix::process::ExitStatusExt;
 use std::process::{Command, Stdio};
-use support::{folder, run, Ran, COMMAND, RADIO_JOB, RADIO_TEXT, REPORT};
+use support::{folder, run, Ran, COMMAND, RADIO_ABNF, RADIO_JOB, RADIO_TEXT, REPORT};
 
 fn onto_a_full_device(words: &[&str], input: &[u8]) -> Ran {
     let full = File::options().write(true).open("/dev/full").unwrap();
@@ -47,6 +47,15 @@ fn a_full_device_is_reported() {
     assert_eq!(refused.status, Some(2));
     refused.says(&["refused 8 at 1", "standard output: No space left"]);
     assert_eq!(onto_a_full_device(&["disassemble"], RADIO_JOB).status, Some(2));
+    for words in [
+        &["read"][..],
+        &["read", "--text"],
+        &["report", "--abnf", "--word", "F1;"],
+        &["nightly", "--abnf", "--word", "F1;"],
+    ] {
+        let ran = onto_a_full_device(words, RADIO_ABNF);
+        assert_eq!((ran.status, ran.stderr.contains("No space left on device")), (Some(2), true), "{words:?}");
+    }
 }
 
 /// A closed output is told: what is written would be lost.
@@ -225,6 +234,11 @@ fn inputs_without_end() {
         let ran = within_a_gigabyte(words);
         assert_eq!((ran.status, &ran.stdout[..refused.len()]), (Some(1), refused), "{words}: {}", ran.stderr);
     }
+    for words in
+        ["read /dev/zero", "codes --abnf </dev/full", "nightly --abnf --word a /dev/zero", "read <(yes 'a = %x41')"]
+    {
+        within_a_gigabyte(words).refuses("refused 2 at 16385\n", &["the text has more than 16384 bytes\n"]);
+    }
     for words in ["report <(yes '#')", "explain - < <(yes '#')", "assemble <(yes '#')", "nightly <(yes '#')"] {
         within_a_gigabyte(words).refuses("", &["the text has more than 16777216 bytes"]);
     }
@@ -237,6 +251,8 @@ fn files_that_cannot_be_read() {
         &["codes", "/"],
         &["nightly", "/no/such/file"],
         &["assemble", "/no/such/file"],
+        &["read", "/no/such/file"],
+        &["codes", "/no/such/file.abnf"],
     ] {
         let ran = run(words, b"");
         assert_eq!((ran.status, ran.stdout.as_str()), (Some(2), ""), "{words:?}");

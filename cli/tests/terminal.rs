@@ -53,5 +53,8 @@ fn waiting_for_the_terminal_is_said() {
     let terminal = on_a_terminal("report", &[]);
     assert!(terminal.stdout.contains("ropeclover: reading a job or its text from the terminal"), "{}", terminal.stdout);
     assert!(terminal.stdout.contains("refused 8 at 0"));
+    let terminal = on_a_terminal("read", &[]);
+    assert!(terminal.stdout.contains("ropeclover: reading ABNF text from the terminal"), "{}", terminal.stdout);
+    assert!(terminal.stdout.contains("refused 16 at 0"));
     assert!(!run(&["report"], b"").stderr.contains("terminal"));
 }

@@ -19,7 +19,9 @@ fn help_and_version() {
         "disassemble",
         "binarize",
         "clean",
+        "read",
         "completions",
+        ".abnf",
         "Exit status: 0",
         "ropeclover-report",
         "scripts",
@@ -27,7 +29,7 @@ fn help_and_version() {
         assert!(help.stdout.contains(part), "{part}");
     }
     for command in
-        ["report", "codes", "explain", "nightly", "assemble", "disassemble", "binarize", "clean", "completions"]
+        ["report", "codes", "explain", "nightly", "assemble", "disassemble", "binarize", "clean", "read", "completions"]
     {
         let help = run(&[command, "--help"], b"");
         assert_eq!(help.status, Some(0));
@@ -65,6 +67,10 @@ fn bad_words_end_with_status_2() {
         &["binarize", "a", "b"],
         &["clean", "a", "b"],
         &["clean", "--format", "json"],
+        &["read", "a", "b"],
+        &["read", "--abnf"],
+        &["report", "--word", "a", "--word", "b"],
+        &["codes", "--word", "a"],
         &["completions", "sh"],
     ] {
         let ran = run(words, b"");
@@ -103,7 +109,7 @@ fn completions_know_the_subcommands() {
     for shell in ["bash", "zsh", "fish"] {
         let ran = run(&["completions", shell], b"");
         assert_eq!(ran.status, Some(0));
-        for word in ["nightly", "baseline", "binarize", "turns", "clean"] {
+        for word in ["nightly", "baseline", "binarize", "turns", "clean", "read", "abnf", "word"] {
             assert!(ran.stdout.contains(word), "{word} for {shell}");
         }
     }
@@ -124,7 +130,7 @@ fn offered(words: &[&str]) -> String {
 /// Where a file is due, bash's function offers nothing, so that bash offers files.
 #[test]
 fn options_are_offered_behind_a_hyphen() {
-    for command in ["report", "codes", "explain", "nightly", "assemble", "disassemble", "binarize", "clean"] {
+    for command in ["report", "codes", "explain", "nightly", "assemble", "disassemble", "binarize", "clean", "read"] {
         assert_eq!(offered(&["ropeclover", command, ""]), "\n");
         assert_eq!(offered(&["ropeclover", command, "--help", ""]), "\n");
         assert_eq!(offered(&["ropeclover", command, "--he"]), "--help\n");
@@ -164,13 +170,14 @@ fn files_are_offered_where_nothing_is_typed() {
     assert!(shown.contains("taken: report radio.txt."), "{shown}");
 }
 
-/// A tab where a number or a form is due: no file is offered. Behind the baseline's option one is.
+/// A tab where a number, a form or a word is due: no file is offered. Behind the baseline's option one is.
 #[test]
 fn files_are_offered_for_files_alone() {
-    for option in ["--steps", "--seed", "--jobs", "--form"] {
+    for option in ["--steps", "--seed", "--jobs", "--form", "--word"] {
         assert_eq!(offered(&["ropeclover", "nightly", option, ""]), "\n", "{option}");
     }
-    let options = "nightly --steps r\t --seed r\t --jobs r\t --form r\t --baseline r\t";
+    let options = "nightly --steps r\t --seed r\t --jobs r\t --form r\t --word r\t --baseline r\t";
     let shown = typed("complete-options", &format!("ropeclover {options}"));
-    assert!(shown.contains("taken: nightly --steps r --seed r --jobs r --form r --baseline radio.txt."), "{shown}");
+    let taken = "taken: nightly --steps r --seed r --jobs r --form r --word r --baseline radio.txt.";
+    assert!(shown.contains(taken), "{shown}");
 }

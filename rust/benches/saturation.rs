@@ -11,6 +11,8 @@ mod jobs;
 mod random;
 #[path = "support/states.rs"]
 mod states;
+#[path = "support/timing.rs"]
+mod timing;
 #[path = "support/words.rs"]
 mod words;
 #[path = "support/worklist.rs"]
@@ -20,6 +22,7 @@ use ropeclover::{advance, ask, bits, explain, show_refused, start, verdicts};
 use ropeclover::{Advanced, Workspace, BIT_TABLE_BYTES, HALF_BYTES, LISTING_BYTES, REASONS, TABLE_BYTES};
 use std::hint::black_box;
 use std::time::{Duration, Instant};
+use timing::{row, time};
 
 // What `rt staticlib benchmarks` writes.
 #[link(name = "benchmarks", kind = "static")]
@@ -30,34 +33,6 @@ extern "C" {
 fn state_count(job: &[u8]) -> u64 {
     // SAFETY: the export reads the bytes of the slice and nothing else.
     unsafe { ropeclover_benchmark_state_count(job.as_ptr(), job.len()) }
-}
-
-/// The best of some runs: what is left when nothing else disturbs.
-fn time<T>(mut work: impl FnMut() -> T) -> (T, Duration) {
-    let mut best = Duration::MAX;
-    let mut result = None;
-    let begun = Instant::now();
-    for _ in 0..200 {
-        let at = Instant::now();
-        let value = work();
-        best = best.min(at.elapsed());
-        result = Some(value);
-        if begun.elapsed() > Duration::from_millis(1_500) {
-            break;
-        }
-    }
-    (result.expect("at least one run"), best)
-}
-
-fn row(what: &str, taken: Duration, baseline: Option<(&str, Duration)>) {
-    let micros = taken.as_secs_f64() * 1e6;
-    match baseline {
-        Some((name, other)) => {
-            let ratio = taken.as_secs_f64() / other.as_secs_f64();
-            println!("  {what:<34} {micros:>12.1} us   {ratio:>8.2} x {name} ({:.1} us)", other.as_secs_f64() * 1e6);
-        }
-        None => println!("  {what:<34} {micros:>12.1} us"),
-    }
 }
 
 /// What the table of bytes took and left, for the bit table to be compared with.

@@ -58,5 +58,6 @@ exports! {
     fn ropeclover_done_count(bits: bytes) -> 3;
     fn ropeclover_binarize(long: bytes, job: bytes_mut) -> 3;
     fn ropeclover_clean(job: bytes, out: bytes_mut) -> 3;
+    fn ropeclover_read_abnf(text: bytes, map: bytes_mut, job: bytes_mut) -> 4;
     fn ropeclover_show(job: bytes) -> 2;
 }

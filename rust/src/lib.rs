@@ -51,11 +51,13 @@
 //! assert_eq!((refusal.number(), refusal.place()), (1, 9));
 //! ```
 //!
-//! The eight functions [`start`], [`advance`], [`ask`], [`explain`], [`verdicts`], [`show_refused`], [`binarize`] and [`clean`] are the library's, on
-//! lent memory; [`Workspace`] owns such memory and knows what it holds. The module [`bits`] has the library's functions on a table in a quarter of the
-//! memory. [`text`] reads and writes jobs as text. [`long`] is for rules with more than two symbols in their bodies.
+//! The nine functions [`start`], [`advance`], [`ask`], [`explain`], [`verdicts`], [`show_refused`], [`binarize`], [`clean`] and [`read_abnf`] are the
+//! library's, on lent memory; [`Workspace`] owns such memory and knows what it holds. The module [`bits`] has the library's functions on a table in a
+//! quarter of the memory. [`text`] reads and writes jobs as text. [`long`] is for rules with more than two symbols in their bodies. [`abnf_grammar`]
+//! reads a grammar from ABNF text.
 #![deny(missing_docs)]
 
+mod abnf;
 pub mod bits;
 mod calls;
 mod clean;
@@ -73,6 +75,7 @@ pub mod text;
 mod words;
 mod workspace;
 
+pub use abnf::{abnf_grammar, read_abnf, AbnfGrammar, Missing, TextRead};
 pub use calls::{advance, ask, binarize, explain, show_refused, start, verdicts, Advanced, Explained, Verdicts};
 pub use clean::{clean, cleaned, CleanCopy, LeftOut};
 pub use entry::{reason_of, turn_of};
@@ -224,7 +227,7 @@ pub const LONG_JOB_BYTES: usize = 49_152;
 /// ```
 pub const BODY_SYMBOLS: usize = 8;
 
-/// The longest clean copy in bytes: an S record and 256 rules.
+/// The longest clean copy in bytes, and the longest job of an ABNF text: an S record and 256 rules.
 ///
 /// ```
 /// let rules = (0..=255).flat_map(|n| [b'P', 0, 32 + n / 16, 32 + n % 16]);
@@ -232,3 +235,19 @@ pub const BODY_SYMBOLS: usize = 8;
 /// assert_eq!(ropeclover::clean(&job, &mut [0; ropeclover::COPY_BYTES]), Ok(257));
 /// ```
 pub const COPY_BYTES: usize = 1_028;
+
+/// The longest ABNF text in bytes.
+///
+/// ```
+/// let refusal = ropeclover::abnf_grammar(&[0; ropeclover::ABNF_BYTES + 1]).unwrap_err();
+/// assert_eq!(refusal.number(), 2);
+/// ```
+pub const ABNF_BYTES: usize = 16_384;
+
+/// The bytes of a map that are written: a character for each terminal.
+///
+/// ```
+/// let refusal = ropeclover::read_abnf(b"", &mut [0; ropeclover::MAP_BYTES - 1], &mut []).unwrap_err();
+/// assert_eq!((refusal.number(), refusal.place()), (10, 3));
+/// ```
+pub const MAP_BYTES: usize = 32;

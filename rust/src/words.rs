@@ -9,7 +9,7 @@ pub fn refusal_text(number: u64) -> &'static str {
     match number {
         0 => "accepted",
         1 => "the length is no whole number of records",
-        2 => "the job has too many bytes",
+        2 => "the job or the text has too many bytes",
         3 => "a record has an unknown kind letter",
         4 => "a field is outside its class",
         5 => "a record stands twice",
@@ -23,6 +23,9 @@ pub fn refusal_text(number: u64) -> &'static str {
         13 => "the buffer that is written to is too short",
         14 => "a long rule takes more variables than are free",
         15 => "a record of a long job is not padded by zeros",
+        16 => "the text leaves the part of ABNF that is read",
+        17 => "a name has no rule, or a rule has the wrong one of '=' and '=/'",
+        18 => "the text takes too many variables or characters",
         _ => "an unknown refusal",
     }
 }

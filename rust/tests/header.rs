@@ -42,6 +42,8 @@ fn limits_agree() {
         ("LONG_RECORD_BYTES", ropeclover::LONG_RECORD_BYTES),
         ("BODY_SYMBOLS", ropeclover::BODY_SYMBOLS),
         ("COPY_BYTES", ropeclover::COPY_BYTES),
+        ("ABNF_BYTES", ropeclover::ABNF_BYTES),
+        ("MAP_BYTES", ropeclover::MAP_BYTES),
     ] {
         assert!(header.contains(&format!("#define ROPECLOVER_{name} {value}\n")), "{name}");
     }
@@ -57,6 +59,6 @@ fn refusals_have_the_same_words() {
         assert_eq!(ropeclover::refusal_text(numbers[name]), text.trim_end_matches("\";"), "{name}");
         found += 1;
     }
-    assert_eq!(found, 16);
-    assert_eq!(ropeclover::refusal_text(16), "an unknown refusal");
+    assert_eq!(found, 19);
+    assert_eq!(ropeclover::refusal_text(19), "an unknown refusal");
 }

@@ -1,18 +1,25 @@
 //! Refusals by operation: their numbers, places and records, and each message as a whole.
 use ropeclover::{Operation, Refusal};
 
-const OPERATIONS: [Operation; 4] = [Operation::Table, Operation::Bits, Operation::Binarize, Operation::Clean];
+const OPERATIONS: [Operation; 5] =
+    [Operation::Table, Operation::Bits, Operation::Binarize, Operation::Clean, Operation::ReadAbnf];
 
 /// Whatever a refusal is called, it keeps its number and its place, and knows its record.
 #[test]
 fn numbers_and_places_are_kept() {
     for operation in OPERATIONS {
-        for (number, place) in (1..=16).flat_map(|number| [0, 1, 3, 16_388, 49_164].map(|place| (number, place))) {
+        for (number, place) in
+            (1..=19).flat_map(|number| [0, 1, 2, 3, 257, 16_388, 49_164].map(|place| (number, place)))
+        {
             let refusal = Refusal::of(operation, number, place);
             assert_eq!((refusal.number(), refusal.place()), (number, place), "{refusal:?}");
-            let is_of_a_record = matches!(number, 3..=7 | 14 | 15);
+            let is_of_a_record = matches!(number, 3..=7 | 14 | 15) && (number, operation) != (7, Operation::ReadAbnf);
             assert_eq!(refusal.record(), is_of_a_record.then_some(place as usize), "{refusal:?}");
-            let is_named = number < 16 && (number != 10 || (1..=3).contains(&place));
+            let is_named = match number {
+                10 => (1..=3).contains(&place),
+                18 => (1..=2).contains(&place),
+                _ => number < 19,
+            };
             assert_eq!(refusal.to_string() == format!("refused by {number} at {place}"), !is_named, "{refusal}");
         }
     }
@@ -81,6 +88,34 @@ fn messages() {
             "record 7 takes more variables than are free: those of 0 to 31 that no record names",
         ),
         (Operation::Binarize, 15, 7, "record 7 has a length over 8, or a byte past its body or fields that is not 0"),
+        (Operation::ReadAbnf, 10, 3, "the lent map has fewer than 32 bytes"),
+        (Operation::ReadAbnf, 2, 16_385, "the text has 16385 bytes; at most 16384 are taken"),
+        (Operation::ReadAbnf, 16, 7, "the text leaves the part of ABNF that is read at offset 7"),
+        (
+            Operation::ReadAbnf,
+            17,
+            7,
+            "the name at offset 7 has no rule, or it begins a rule by '=/' with no '=' above, or by '=' with one above",
+        ),
+        (
+            Operation::ReadAbnf,
+            18,
+            1,
+            "the text takes more than 32 variables: one for each name, for each letter of its strings, and for each tail of a body",
+        ),
+        (
+            Operation::ReadAbnf,
+            18,
+            2,
+            "the text uses more than 32 characters, both cases of each letter of its strings included",
+        ),
+        (Operation::ReadAbnf, 7, 257, "the text gives a 257th rule; at most 256 different ones are taken"),
+        (
+            Operation::ReadAbnf,
+            13,
+            9,
+            "the lent buffer is too short for the job written: room for 9 records of 4 bytes is needed",
+        ),
     ] {
         assert_eq!(Refusal::of(operation, number, place).to_string(), message);
     }

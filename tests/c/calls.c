@@ -77,13 +77,13 @@ static void says_versions_and_refusals(void)
     snprintf(spelled, sizeof spelled, "%d.%d.%d", ROPECLOVER_VERSION_MAJOR, ROPECLOVER_VERSION_MINOR, ROPECLOVER_VERSION_PATCH);
     same("the version's parts", strcmp(spelled, ropeclover_version()), 0);
     same("the version", strcmp(ROPECLOVER_VERSION, ropeclover_version()), 0);
-    for (uint64_t number = 0; number <= 15; number++) {
+    for (uint64_t number = 0; number <= 18; number++) {
         same("a known refusal", strcmp(ropeclover_refusal_text(number), ropeclover_refusal_text(99)) != 0, 1);
         for (uint64_t other = 0; other < number; other++) {
             same("two refusals", strcmp(ropeclover_refusal_text(number), ropeclover_refusal_text(other)) != 0, 1);
         }
     }
-    same("an unknown refusal", ropeclover_refusal_text(16) == ropeclover_refusal_text(UINT64_MAX), 1);
+    same("an unknown refusal", ropeclover_refusal_text(19) == ropeclover_refusal_text(UINT64_MAX), 1);
 }
 
 /* The places of an answer have names, which say what the functions' comments say. */
@@ -636,6 +636,187 @@ static void has_limits_of_clean(void)
     writes("clean: one record more", clean, longest, sizeof longest, ROPECLOVER_COPY_BYTES, too_long);
 }
 
+/* Go is 0 and has three alternatives. The first takes 1 for the letter of its string, then 2 for the tail 'go 1'; the second has 1 again. The
+ * characters 1, F and f are 32, 33 and 34. */
+static const char abnf[] = "Go = \"f\" go %x31 / \"F\" ; a comment\r\ngO =/ \"\"\r\n";
+static const uint8_t characters[ROPECLOVER_MAP_BYTES] = {'1', 'F', 'f'};
+static const uint8_t of_abnf[] = {
+    'S', 0, 0, 0, 'E', 0, 0, 0, 'P', 0, 1, 2, 'U', 0, 1, 0, 'U', 1, 33, 0, 'U', 1, 34, 0, 'P', 2, 0, 32,
+};
+
+/* What is expected of a text: the answer, and where it is accepted the map and the job. */
+struct reading {
+    uint64_t answer[4];
+    const uint8_t *map, *job;
+};
+
+/* Reads a text, with a map and a buffer of some lengths between guard bytes, and says whether both have what is expected in front of 7s. */
+static void reads(const char *what, const char *input, size_t length, size_t map_room, size_t room, struct reading expected)
+{
+    static uint8_t map[GUARD + ROPECLOVER_MAP_BYTES + GUARD], memory[GUARD + ROPECLOVER_COPY_BYTES + GUARD];
+    size_t mapped = expected.answer[0] == 0 ? ROPECLOVER_MAP_BYTES : 0, written = 4 * (size_t)expected.answer[2], changed = 0;
+    uint64_t answer[4] = {9, 9, 9, 9};
+    memset(map, 7, sizeof map);
+    memset(memory, 7, sizeof memory);
+    ropeclover_read_abnf((const uint8_t *)input, length, map + GUARD, map_room, memory + GUARD, room, answer);
+    answers(what, answer, expected.answer, 4);
+    for (size_t i = 0; i < sizeof map; i++) {
+        changed += map[i] != (i >= GUARD && i < GUARD + mapped ? expected.map[i - GUARD] : 7);
+    }
+    for (size_t i = 0; i < sizeof memory; i++) {
+        changed += memory[i] != (i >= GUARD && i < GUARD + written ? expected.job[i - GUARD] : 7);
+    }
+    same(what, changed, 0);
+}
+
+static void reads_abnf(void)
+{
+    const struct reading expected = {{0, 0, sizeof of_abnf / 4, 3}, characters, of_abnf};
+    const struct reading short_map = {{ROPECLOVER_SHORT_BUFFER, 3, 0, 0}, NULL, NULL};
+    const struct reading short_job = {{ROPECLOVER_JOB_TOO_SHORT, sizeof of_abnf / 4, 0, 0}, NULL, NULL};
+    size_t length = strlen(abnf);
+    for (size_t map = ROPECLOVER_MAP_BYTES; map <= ROPECLOVER_MAP_BYTES + 1; map++) {
+        reads("a text", abnf, length, map, ROPECLOVER_COPY_BYTES, expected);
+        reads("a text with no byte to spare", abnf, length, map, sizeof of_abnf, expected);
+        reads("a text with a byte too few", abnf, length, map, sizeof of_abnf - 1, short_job);
+        reads("a text with no bytes", abnf, length, map, 0, short_job);
+    }
+    reads("a short map", abnf, length, ROPECLOVER_MAP_BYTES - 1, ROPECLOVER_COPY_BYTES, short_map);
+    reads("a short map before all else", abnf, 1, 0, 0, short_map);
+    uint8_t map[ROPECLOVER_MAP_BYTES], read[ROPECLOVER_COPY_BYTES], codes[ROPECLOVER_CODES];
+    uint64_t answer[ROPECLOVER_ANSWER_NUMBERS];
+    ropeclover_read_abnf((const uint8_t *)abnf, length, map, sizeof map, read, sizeof read, answer);
+    same("records of a text by name", answer[ROPECLOVER_RECORDS_WRITTEN], 7);
+    same("characters of a text by name", answer[ROPECLOVER_CHARACTERS_USED], 3);
+    ropeclover_verdicts(read, sizeof of_abnf, table, sizeof table, codes, sizeof codes, answer);
+    same("the job of a text is accepted", answer[0], 0);
+    same("the language of a text grows", answer[ROPECLOVER_IS_GROWING], 1);
+}
+
+/* 16 and 17, each where it is told, also with a buffer of no bytes. */
+static void names_refusals_of_abnf(void)
+{
+    static const struct {
+        const char *text;
+        uint64_t number, place;
+    } cases[] = {
+        {"", ROPECLOVER_OUTSIDE_ABNF, 0},
+        {"a=\"\"", ROPECLOVER_OUTSIDE_ABNF, 4},
+        {"a=\"\"\n", ROPECLOVER_OUTSIDE_ABNF, 4},
+        {"a=\"\"\r\n\r\n", ROPECLOVER_OUTSIDE_ABNF, 6},
+        {"a=%x41-5A\r\n", ROPECLOVER_OUTSIDE_ABNF, 2},
+        {"a=%x41-\r\n", ROPECLOVER_OUTSIDE_ABNF, 6},
+        {"a=%x100\r\n", ROPECLOVER_OUTSIDE_ABNF, 2},
+        {"a=%s\"x\"\r\n", ROPECLOVER_OUTSIDE_ABNF, 2},
+        {"a=(a)\r\n", ROPECLOVER_OUTSIDE_ABNF, 2},
+        {"a=b\r\nb=*a\r\n", ROPECLOVER_OUTSIDE_ABNF, 7},
+        {"a=b\r\n", ROPECLOVER_NAME_OUT_OF_PLACE, 2},
+        {"a=a ALPHA\r\n", ROPECLOVER_NAME_OUT_OF_PLACE, 4},
+        {"a=/\"\"\r\n", ROPECLOVER_NAME_OUT_OF_PLACE, 0},
+        {"a=\"\"\r\nA=\"\"\r\n", ROPECLOVER_NAME_OUT_OF_PLACE, 6},
+    };
+    for (size_t i = 0; i < sizeof cases / sizeof cases[0]; i++) {
+        const struct reading expected = {{cases[i].number, cases[i].place, 0, 0}, NULL, NULL};
+        reads("a refused text", cases[i].text, strlen(cases[i].text), ROPECLOVER_MAP_BYTES, ROPECLOVER_COPY_BYTES, expected);
+        reads("a refused text, no bytes", cases[i].text, strlen(cases[i].text), ROPECLOVER_MAP_BYTES, 0, expected);
+    }
+}
+
+/* A text that is made line by line, and the map and the job that are expected of it. */
+static char made[ROPECLOVER_ABNF_BYTES + 1];
+static size_t made_length;
+static uint8_t made_map[ROPECLOVER_MAP_BYTES], made_job[ROPECLOVER_COPY_BYTES];
+
+/* Begins such a text, of which nothing is expected but S. */
+static void begins(void)
+{
+    made_length = 0;
+    memset(made_map, 0, sizeof made_map);
+    memset(made_job, 0, sizeof made_job);
+    made_job[0] = 'S';
+}
+
+static void adds_line(const char *line)
+{
+    made_length += (size_t)snprintf(made + made_length, sizeof made - made_length, "%s\r\n", line);
+}
+
+/* Expects a rule as a record of the job, after S and those before it. */
+static void expects_rule(size_t number, const uint8_t rule[4])
+{
+    memcpy(made_job + 4 + 4 * number, rule, 4);
+}
+
+/* Reads the text that was made, with buffers of the lengths that are always enough. */
+static void reads_made(const char *what, const uint64_t expected[4])
+{
+    const struct reading reading = {{expected[0], expected[1], expected[2], expected[3]}, made_map, made_job};
+    reads(what, made, made_length, ROPECLOVER_MAP_BYTES, ROPECLOVER_COPY_BYTES, reading);
+}
+
+/* As many names as there are variables, each with the empty body, and one more. */
+static void has_a_most_of_names(void)
+{
+    char line[32];
+    begins();
+    for (unsigned i = 0; i < ROPECLOVER_VARIABLES; i++) {
+        snprintf(line, sizeof line, "n%u=\"\"", i);
+        adds_line(line);
+        expects_rule(i, (const uint8_t[]){'E', (uint8_t)i, 0, 0});
+    }
+    reads_made("the most names", (const uint64_t[]){0, 0, 1 + ROPECLOVER_VARIABLES, 0});
+    adds_line("n=\"\"");
+    reads_made("one name more", (const uint64_t[]){ROPECLOVER_TOO_MANY_SYMBOLS, 1, 0, 0});
+}
+
+/* As many characters as the map has, NUL being the first, and one more. */
+static void has_a_most_of_characters(void)
+{
+    char line[32];
+    begins();
+    for (unsigned i = 0; i < ROPECLOVER_MAP_BYTES; i++) {
+        snprintf(line, sizeof line, "a%s%%x%X", i == 0 ? "=" : "=/", 7 * i);
+        adds_line(line);
+        made_map[i] = (uint8_t)(7 * i);
+        expects_rule(i, (const uint8_t[]){'U', 0, (uint8_t)(32 + i), 0});
+    }
+    reads_made("the most characters", (const uint64_t[]){0, 0, 1 + ROPECLOVER_MAP_BYTES, ROPECLOVER_MAP_BYTES});
+    adds_line("a=/%x1");
+    reads_made("one character more", (const uint64_t[]){ROPECLOVER_TOO_MANY_SYMBOLS, 2, 0, 0});
+}
+
+/* All pairs of 16 characters, which are as many rules as there may be; a pair again, which is no other rule; and one more. */
+static void has_a_most_of_rules(void)
+{
+    char line[32];
+    begins();
+    for (unsigned i = 0; i < ROPECLOVER_RULES; i++) {
+        snprintf(line, sizeof line, "a%s%%xF%X.F%X", i == 0 ? "=" : "=/", i / 16, i % 16);
+        adds_line(line);
+        made_map[i / 16] = (uint8_t)(0xF0 + i / 16);
+        expects_rule(i, (const uint8_t[]){'P', 0, (uint8_t)(32 + i / 16), (uint8_t)(32 + i % 16)});
+    }
+    reads_made("the most rules", (const uint64_t[]){0, 0, 1 + ROPECLOVER_RULES, 16});
+    adds_line("a=/%xF0.F0");
+    reads_made("a rule again", (const uint64_t[]){0, 0, 1 + ROPECLOVER_RULES, 16});
+    adds_line("a=/\"\"");
+    reads_made("one rule more", (const uint64_t[]){ROPECLOVER_TOO_MANY_RULES, ROPECLOVER_RULES + 1, 0, 0});
+}
+
+/* A comment makes a text as long as it may be, and a byte longer. */
+static void has_a_longest_text(void)
+{
+    begins();
+    memset(made, '-', sizeof made);
+    memcpy(made, "a=\"\";", 5);
+    made_length = ROPECLOVER_ABNF_BYTES;
+    memcpy(made + made_length - 2, "\r\n", 2);
+    expects_rule(0, (const uint8_t[]){'E', 0, 0, 0});
+    reads_made("the longest text", (const uint64_t[]){0, 0, 2, 0});
+    made_length++;
+    reads_made("one byte more", (const uint64_t[]){ROPECLOVER_JOB_TOO_LONG, ROPECLOVER_ABNF_BYTES + 1, 0, 0});
+}
+
 int main(void)
 {
     takes_entries_apart();
@@ -660,6 +841,12 @@ int main(void)
     cleans_jobs();
     names_refusals_of_clean();
     has_limits_of_clean();
+    reads_abnf();
+    names_refusals_of_abnf();
+    has_a_most_of_names();
+    has_a_most_of_characters();
+    has_a_most_of_rules();
+    has_a_longest_text();
     printf("%d passed, %d failed\n", passed, failed);
     return failed != 0;
 }

@@ -1,6 +1,6 @@
-//! Jobs from text, and back; from long jobs; and clean copies.
+//! Jobs from text, and back; from long jobs and ABNF text; and clean copies.
 use super::refused;
-use crate::args::{Assemble, Binarize, Clean, Disassemble, Format};
+use crate::args::{Assemble, Binarize, Clean, Disassemble, Format, Read};
 use crate::failure::{complain, Failure};
 use crate::input::{self, Input, Unreadable};
 use crate::{output, print};
@@ -14,13 +14,13 @@ fn printed(input: &Input, job: &[u8], names: &Names) -> Result<Vec<u8>, Failure>
 }
 
 pub fn assemble(options: &Assemble) -> Result<(), Failure> {
-    let input = input::read_text_only(options.file.as_deref())?;
+    let input = input::read_text_only(options.file.as_deref(), options.dialect.abnf)?;
     output::write(|output| output.write_all(input.bytes()))
 }
 
 pub fn disassemble(options: &Disassemble) -> Result<(), Failure> {
-    let input = input::read_job_only(options.file.as_deref())?;
-    let text = printed(&input, input.bytes(), &Names::default())?;
+    let input = input::read_job_only(options.file.as_deref(), options.dialect.abnf)?;
+    let text = printed(&input, input.bytes(), &input.names)?;
     output::write(|output| output.write_all(&text))
 }
 
@@ -31,7 +31,7 @@ fn form_lines(input: &Input) -> String {
 }
 
 pub fn binarize(options: &Binarize) -> Result<(), Failure> {
-    let input = input::read_long(options.file.as_deref())?;
+    let input = input::read_long(options.file.as_deref(), options.dialect.abnf)?;
     let written = match options.text {
         true => [printed(&input, &input.job, &input.names)?, form_lines(&input).into_bytes()].concat(),
         false => input.job,
@@ -40,11 +40,20 @@ pub fn binarize(options: &Binarize) -> Result<(), Failure> {
 }
 
 pub fn clean(options: &Clean) -> Result<(), Failure> {
-    let input = input::read(options.file.as_deref())?;
+    let input = input::read(options.file.as_deref(), options.dialect.abnf)?;
     let copy = Workspace::new().clean(&input.job).map_err(refused(&input, Format::Text))?;
     let text = || printed(&input, &copy.job, &copy.names(&input.names));
     let written = if options.text { text()? } else { copy.job.clone() };
     output::write(|output| output.write_all(&written))?;
     print::left_out::lines(&copy, &input).iter().for_each(|line| complain(line));
     Ok(())
+}
+
+pub fn read(options: &Read) -> Result<(), Failure> {
+    let input = input::read_abnf(options.file.as_deref())?;
+    let written = match options.text {
+        true => printed(&input, &input.job, &input.names)?,
+        false => input.job,
+    };
+    output::write(|output| output.write_all(&written))
 }

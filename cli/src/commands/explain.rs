@@ -1,5 +1,5 @@
 //! Why a form is accepted.
-use super::refused;
+use super::{refused, with_word};
 use crate::args::{Explain, Format};
 use crate::failure::{complain, Failure};
 use crate::input::{self, Input};
@@ -34,7 +34,8 @@ fn hint(failure: Failure, options: &Explain) -> Failure {
 
 pub fn explain(options: &Explain) -> Result<(), Failure> {
     let failed = |failure: Failure| hint(failure.in_format(options.format), options);
-    let mut input = input::read(options.file.as_deref()).map_err(failed)?;
+    let input = input::read(options.file.as_deref(), options.dialect.abnf).map_err(failed)?;
+    let mut input = with_word(input, options.word.as_ref())?;
     let form = form(options, &input)?;
     input.form = form::quoted(&form, &input.names);
     let mut memory = Workspace::new();

@@ -3,16 +3,17 @@ mod completions;
 mod convert;
 mod explain;
 
-use crate::args::{Codes, Format, Report};
-use crate::failure::Failure;
+use crate::args::{Codes, Dialect, Format, Report};
+use crate::failure::{complain, Failure};
 use crate::input::{self, Input};
+use crate::word::Word;
 use crate::{json, output, print};
 use ropeclover::{Refusal, Workspace};
 use serde_json::Value;
 use std::path::PathBuf;
 
 pub use completions::completions;
-pub use convert::{assemble, binarize, clean, disassemble};
+pub use convert::{assemble, binarize, clean, disassemble, read};
 pub use explain::explain;
 
 /// A refusal with what it speaks of.
@@ -20,17 +21,27 @@ fn refused(input: &Input, format: Format) -> impl FnOnce(Refusal) -> Failure + '
     move |refusal| Failure::Refused { refusal, input: Box::new(input.clone()), format }
 }
 
+/// The input with the automaton of a word, where one is asked about. Why the answer is no for a missing character is told.
+fn with_word(input: Input, word: Option<&Word>) -> Result<Input, Failure> {
+    let Some(word) = word else { return Ok(input) };
+    let input = input.with_word(word)?;
+    let reason = input.word.as_ref().and_then(|asked| asked.reason());
+    reason.iter().for_each(|reason| complain(&format!("{}: {reason}", input.name)));
+    Ok(input)
+}
+
 /// Answers about each file, or standard input where none is named; where there are several, each under a heading with its name. A file that fails is
 /// told, and the others are answered all the same.
 fn each(
     files: &[PathBuf],
-    answer: impl Fn(&Input, &Heading) -> Result<(), Failure>,
+    dialect: Dialect,
+    answer: impl Fn(Input, &Heading) -> Result<(), Failure>,
     format: Format,
 ) -> Result<(), Failure> {
     let mut status = 0;
     for file in input::files(files) {
         let heading = Heading((files.len() > 1).then(|| input::name(file)));
-        let outcome = input::read(file).and_then(|input| answer(&input, &heading));
+        let outcome = input::read(file, dialect.abnf).and_then(|input| answer(input, &heading));
         status = status.max(match outcome {
             Ok(()) => 0,
             Err(Failure::Output(error)) => return Err(Failure::Output(error)),
@@ -62,19 +73,20 @@ impl Heading {
 }
 
 pub fn report(options: &Report) -> Result<(), Failure> {
-    let answer = |input: &Input, heading: &Heading| {
-        let report = Workspace::new().report(&input.job).map_err(refused(input, options.format))?;
+    let answer = |input: Input, heading: &Heading| {
+        let input = with_word(input, options.word.as_ref())?;
+        let report = Workspace::new().report(&input.job).map_err(refused(&input, options.format))?;
         output::write(|output| match options.format {
             Format::Text => write!(output, "{}", heading.line()).and_then(|()| print::report::write(output, &report)),
-            Format::Json => json::write(output, &heading.within(json::report(&report))),
+            Format::Json => json::write(output, &heading.within(json::report(&report, &input))),
         })
     };
-    each(&options.files, answer, options.format)
+    each(&options.files, options.dialect, answer, options.format)
 }
 
 pub fn codes(options: &Codes) -> Result<(), Failure> {
-    let answer = |input: &Input, heading: &Heading| {
-        let (_, codes) = Workspace::new().verdicts(&input.job).map_err(refused(input, options.format))?;
+    let answer = |input: Input, heading: &Heading| {
+        let (_, codes) = Workspace::new().verdicts(&input.job).map_err(refused(&input, options.format))?;
         output::write(|output| {
             if options.format == Format::Json {
                 return json::write(output, &heading.within(json::codes(&codes, &input.names)));
@@ -86,5 +98,5 @@ pub fn codes(options: &Codes) -> Result<(), Failure> {
             }
         })
     };
-    each(&options.files, answer, options.format)
+    each(&options.files, options.dialect, answer, options.format)
 }

@@ -1,6 +1,7 @@
-//! The forms that a file is asked about.
+//! The words and the forms that a file is asked about.
 use crate::failure::Failure;
 use crate::input::Input;
+use crate::word::Word;
 use crate::{form, quote};
 use ropeclover::format::start_symbol;
 use ropeclover::text::FormLine;
@@ -33,6 +34,15 @@ impl Asked {
             }
         }
     }
+}
+
+/// The inputs to check: ABNF text with each word, once; any other as it is, as its automaton is its own.
+pub fn words(words: &[Word], input: Input) -> Result<Vec<Input>, Failure> {
+    if input.abnf.is_none() || words.is_empty() {
+        return Ok(vec![input]);
+    }
+    let new = words.iter().enumerate().filter(|(at, word)| !words[..*at].contains(word));
+    new.map(|(_, word)| input.clone().with_word(word)).collect()
 }
 
 /// An error where a form line names a variable that was free, and that a long rule took: it is another symbol now.

@@ -8,11 +8,21 @@
 //! code memory = 1
 //! form memory = accepted yes, records 11
 //! ```
-use super::twice::Checked;
+//!
+//! Of ABNF text there is a line for each word, and forms go with words:
+//!
+//! ```text
+//! word 'M5T88;' = start yes, states 7, examined 24, joins 7
+//! word 'M5T88;' form tone = accepted no, records 0
+//! ```
+use super::twice::{Checked, Explained};
+use super::Job;
 use crate::failure::Failure;
 use crate::output::yes_no;
 use crate::print::listing;
+use crate::word::Word;
 use ropeclover::text::Names;
+use ropeclover::Report;
 use std::collections::{BTreeMap, BTreeSet};
 use std::fs::File;
 use std::io::{self, Read};
@@ -66,23 +76,57 @@ fn text(path: &Path) -> Result<String, Failure> {
     String::from_utf8(bytes).map_err(|_| invalid(path, "a baseline is UTF-8 text".into()))
 }
 
-/// What is seen of a file now.
-pub fn seen(checked: &Checked, names: &Names) -> Seen {
+/// What is seen of the automaton, which is a file's own.
+fn seen_of_automaton(checked: &Checked) -> Seen {
     let report = checked.report;
-    let mut seen = vec![
+    vec![
         ("states".into(), report.states.to_string()),
         ("examined".into(), report.examined.to_string()),
         ("joins".into(), report.joins.to_string()),
         ("start".into(), yes_no(report.start).into()),
-        ("empty".into(), yes_no(report.empty).into()),
-        ("growing".into(), yes_no(report.growing).into()),
+    ]
+}
+
+/// What is seen of the automaton that reads a word.
+fn seen_of_word(word: &Word, checked: &Checked) -> (String, String) {
+    let Report { states, examined, joins, start, .. } = checked.report;
+    (format!("word '{word}'"), format!("start {}, states {states}, examined {examined}, joins {joins}", yes_no(start)))
+}
+
+/// What is seen of the grammar.
+fn seen_of_grammar(checked: &Checked, names: &Names) -> Seen {
+    let mut seen = vec![
+        ("empty".into(), yes_no(checked.report.empty).into()),
+        ("growing".into(), yes_no(checked.report.growing).into()),
     ];
     for (symbol, code) in checked.codes.iter().enumerate().filter(|(_, code)| **code != 0) {
         seen.push((format!("code {}", names.symbol(symbol as u8)), code.to_string()));
     }
-    for form in &checked.forms {
-        let value = format!("accepted {}, records {}", yes_no(form.accepted), form.records);
-        seen.push((format!("form {}", listing::form(&form.form, names)), value));
+    seen
+}
+
+fn seen_of_form(form: &Explained, names: &Names) -> (String, String) {
+    let value = format!("accepted {}, records {}", yes_no(form.accepted), form.records);
+    (format!("form {}", listing::form(&form.form, names)), value)
+}
+
+/// What is seen of a file now: of the grammar once, and of ABNF text something for each word.
+pub fn seen(jobs: &[Job]) -> Seen {
+    let mut seen = Seen::new();
+    for (at, Job { input, checked, .. }) in jobs.iter().enumerate() {
+        let word = input.word.as_ref().map(|asked| &asked.word);
+        if word.is_none() {
+            seen.extend(seen_of_automaton(checked));
+        }
+        if at == 0 {
+            seen.extend(seen_of_grammar(checked, &input.names));
+        }
+        seen.extend(word.map(|word| seen_of_word(word, checked)));
+        let forms = checked.forms.iter().map(|form| seen_of_form(form, &input.names));
+        seen.extend(forms.map(|(label, value)| match word {
+            Some(word) => (format!("word '{word}' {label}"), value),
+            None => (label, value),
+        }));
     }
     seen
 }
@@ -91,13 +135,13 @@ fn value<'a>(seen: &'a Seen, label: &str) -> Option<&'a str> {
     seen.iter().find(|(other, _)| other == label).map(|(_, value)| value.as_str())
 }
 
-/// What weighs most is told first: the report's three answers, then codes by name, forms, and counts.
+/// What weighs most is told first: the report's three answers, then codes by name, words, forms, and counts.
 fn weight(label: &str) -> usize {
-    let kinds = ["start", "empty", "growing", "code ", "form "];
+    let kinds = ["start", "empty", "growing", "code ", "word ", "form "];
     kinds.iter().position(|kind| label.starts_with(kind)).unwrap_or(kinds.len())
 }
 
-/// What differs, the weightiest first. A form that only one side has is no difference: other forms were asked for.
+/// What differs, the weightiest first. A word or a form that only one side has is no difference: others were asked for.
 fn differences(last: &Seen, now: &Seen) -> Vec<String> {
     let values = |seen: &Seen| seen.iter().cloned().collect::<BTreeMap<String, String>>();
     let (last, now) = (values(last), values(now));
@@ -105,7 +149,7 @@ fn differences(last: &Seen, now: &Seen) -> Vec<String> {
         last.keys().chain(now.keys()).map(|label| (weight(label), label)).collect();
     let difference = |(_, label): (usize, &String)| match (last.get(label), now.get(label)) {
         (before, after) if before == after => None,
-        (None, _) | (_, None) if label.starts_with("form ") => None,
+        (None, _) | (_, None) if ["word ", "form "].iter().any(|kind| label.starts_with(kind)) => None,
         (before, after) => {
             let [before, after] = [before, after].map(|value| value.map_or("not there", String::as_str));
             Some(format!("{label} was {before}, is {after}"))

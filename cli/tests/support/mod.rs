@@ -15,6 +15,9 @@ pub const RADIO_JOB: &[u8] = include_bytes!("../../../examples/radio.job");
 /// The example with a long body.
 pub const MEMORY_TEXT: &str = include_str!("../../../examples/memory.txt");
 
+/// The example in ABNF.
+pub const RADIO_ABNF: &[u8] = include_bytes!("../../../examples/radio.abnf");
+
 /// S → a | A A, A → S A | b, and the automaton of (ab)* with more: the specification's job.
 pub const REPORT: &str = "S 0\nU 0 32\nP 0 1 1\nP 1 0 1\nU 1 33\nI 0\nF 2\nT 0 32 1\nT 1 33 2\nT 2 32 1\n";
 

@@ -3,4 +3,5 @@ pub mod Text
 pub mod Pieces
 pub mod Reading
 pub mod Meaning
+pub mod Uses
 pub mod Theorems

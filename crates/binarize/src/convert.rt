@@ -9,7 +9,7 @@ ghost use Prim.Native.Nat.{_<_, _≤_};
 ghost use lib.ListN.{length};
 ghost use Rattle.long_jobs.specs.Convert.{split, convert};
 ghost use Rattle.long_jobs.specs.Walk.{nextFree};
-ghost use Rattle.long_jobs.specs.Inside.Parts.{conversionOf, Room, Reached, shortRule};
+ghost use Rattle.long_jobs.specs.Inside.Parts.{conversionOf, Room, Reached};
 
 // Splits a body of two or more: each pair rule but the last takes a variable for the rest.
 fn split_long(
@@ -53,27 +53,6 @@ fn split_long(
     }
 }
 
-// The rule of a body of none or one.
-fn short_rule(head: u8, body: &[u8]) -> JobRecord
-    requires short { ⌜ length (now body) < 2 ⌝ }
-    ensures rule { λ r. ⌜ r ≡ shortRule head (now (body .entry)) ⌝ }
-{
-    if body.len() == 0 {
-        return JobRecord {
-            kind: b'E',
-            first: head,
-            second: 0,
-            third: 0,
-        };
-    }
-    JobRecord {
-        kind: b'U',
-        first: head,
-        second: body[0],
-        third: 0,
-    }
-}
-
 // Writes the rules of an L record.
 fn convert_long(
     body: &[u8],
@@ -88,7 +67,7 @@ fn convert_long(
         (split (nextFree (now (free .entry))) head (now (body .entry)) (conversionOf p (now (written .entry)))) ⌝ }
 {
     if body.len() < 2 {
-        records::format::put_record(written, p.count, short_rule(head, body));
+        records::format::put_record(written, p.count, dialect::short_rule(head, body));
         return Progress {
             taken: p.taken,
             count: p.count + 1,

@@ -1,7 +1,7 @@
 -- An element and what stands after it: another element, another alternative, or the end of the rule. Assumes nothing.
-use Rattle.grammar.proofs.Basics.{ℕ, _+_, _≤_, _<_, List, _∷_, _≡_, refl, _∙_, sym, ap, Bool, true, false, cases, _⊎_}
-use Rattle.grammar.proofs.Basics.{inl, inr, length, take, drop, getD, arith, true≢false, true-and-false, not, eqb}
-use Rattle.grammar.proofs.Basics.{add-zero, le-of-lt}
+use Rattle.grammar.proofs.Basics.{ℕ, _+_, _≤_, _<_, List, [], _∷_, _++_, _≡_, refl, _∙_, sym, ap, Bool, true, false}
+use Rattle.grammar.proofs.Basics.{cases, _⊎_, inl, inr, length, take, drop, getD, arith, true≢false, true-and-false}
+use Rattle.grammar.proofs.Basics.{not, eqb, add-zero, le-of-lt}
 use Rattle.abnf.specs.declared.Edition.{Edition}
 use Rattle.abnf.specs.declared.Begun.{Begun}
 use Rattle.abnf.specs.declared.PieceKind.{PieceKind}
@@ -12,7 +12,7 @@ use Rattle.abnf.specs.declared.Stage.the-variants.{Open, Filled, FilledSpaced, 
 use Rattle.abnf.specs.Bytes.{isAlpha, isWsp, inName, inComment}
 use Rattle.abnf.specs.Text.{rulename}
 use Rattle.abnf.specs.Pieces.{span, begins}
-use Rattle.abnf.specs.Reading.{follows, isOutside, slashSaid, elementSaid}
+use Rattle.abnf.specs.Reading.{follows, isOutside, elementSaid}
 use Rattle.abnf.proofs.Spans.{counted}
 use Rattle.abnf.proofs.Lexed.{lexed-piece}
 use Rattle.abnf.proofs.Walks.{PieceText, name-text, mark-text, slash-text, blank-text, literal-text, comment-text}
@@ -21,12 +21,12 @@ use Rattle.cursor.specs.declared.After.{After}
 use Rattle.cursor.specs.declared.After.the-variants.{ElementAfter, AlternativeAfter, RuleAfter}
 use Rattle.cursor.specs.declared.ElementPart.{ElementPart}
 use Rattle.scanner.specs.Parts.{partOf}
-use Rattle.cursor.specs.Cursor.{saidAt, FineAt, ElementBegins, IsLiteral, is-literal, IsElement, elementOf}
-use Rattle.cursor.specs.Cursor.{ElementRead, AfterRead}
-use Rattle.cursor.proofs.Stepping.{Step, step, Same, alike, begunAt, begun, Begins, a-name, a-blank, a-mark}
-use Rattle.cursor.proofs.Stepping.{a-slash, a-comment, an-end, a-literal, none, within-text}
+use Rattle.cursor.specs.Cursor.{saidAfter, usesAfter, FineAt, FineAfter, ElementBegins, IsLiteral, is-literal}
+use Rattle.cursor.specs.Cursor.{IsElement, elementOf, usesIn, ElementRead, AfterRead}
+use Rattle.cursor.proofs.Stepping.{Found, foundAt, finds, Step, step, Same, alike, begunAt, begun, Begins}
+use Rattle.cursor.proofs.Stepping.{a-name, a-blank, a-mark, a-slash, a-comment, an-end, a-literal, none}
+use Rattle.cursor.proofs.Stepping.{within-text, part-begins}
 use Rattle.scanner.proofs.Offsets.{here, begins-inside}
-use Rattle.cursor.proofs.Stepping.{part-begins}
 use Rattle.cursor.proofs.HeadLaws.{pastRun, behind-run, spaced, opened}
 
 -- after an element, blanks change nothing but that an element may follow them
@@ -65,7 +65,7 @@ line-end e σ text at o l byte h =
     (λ t.
     let ended = rw t at st in
     let stands = begins-inside (eqb 10) text (at + 1) t in
-    (omega arith, rw size (record { fine = ended .fine; says = ended .says })))
+    (omega arith, rw size (record { fine = ended .fine; found = ended .found })))
     (λ f. true-and-false o ((rw f at st) .allowed))
 
 noted : (e : Edition) (text : List ℕ) (at : ℕ) {q : Begun} → Begins e (getD text at 0) (drop (at + 1) text) q →
@@ -83,6 +83,9 @@ noted e text at none a = absurd (true≢false a)
 abbrev partAfter : ℕ → After → ℕ → ElementPart
 partAfter end after next = record { literal = false; end = end; after = after; next = next }
 
+abbrev foundAfter : Edition → After → List ℕ → ℕ → Found
+foundAfter e after text next = record { said = saidAfter e after text next; uses = usesAfter e after text next }
+
 module _ (e : Edition) (text : List ℕ) (end sign : ℕ) (signs : sign ≡ pastRun isWsp text end)
     (h : FineAt e Filled text end) where
   sign-fine : Same e text Filled end FilledSpaced sign
@@ -97,21 +100,29 @@ module _ (e : Edition) (text : List ℕ) (end sign : ℕ) (signs : sign ≡ past
   sign-step : Step e FilledSpaced text sign (begunAt e text sign .kind) (begunAt e text sign .more)
   sign-step = step e FilledSpaced text sign sign-stands (sign-fine .fine)
 
+  read-after : (after : After) (next : ℕ) (x : ElementPart) → x ≡ partAfter end after next → sign ≤ next →
+      next ≤ length text → foundAt e FilledSpaced text sign ≡ foundAfter e after text next →
+      FineAfter e after text next → AfterRead e text end x
+  read-after after next x is order within found fine =
+      rw is
+      (record {
+        ends = refl;
+        order = omega arith;
+        within = within;
+        says = ap (λ (f : Found). f .said) (sign-fine .found ∙ found);
+        uses = ap (λ (f : Found). f .uses) (sign-fine .found ∙ found);
+        after = fine;
+      })
+
   pub alternative-after : (next : ℕ) (x : ElementPart) → getD text sign 0 ≡ 47 →
       next ≡ pastRun isWsp text (sign + 1) → x ≡ partAfter end AlternativeAfter next → AfterRead e text end x
   alternative-after next x byte nexts is =
       let st : Step e FilledSpaced text sign SlashPiece 0 = rw byte at sign-step in
       let o = rw (← nexts) at (opened e text (sign + 1) (rw (add-zero (sign + 1)) at (st .fine))) in
-      rw is
-      (record {
-        ends = refl;
-        order = omega arith;
-        within = o .within;
-        says =
-            sign-fine .says ∙ st .says
-            ∙ ap slashSaid (ap (saidAt e Open text) (add-zero (sign + 1)) ∙ o .says);
-        after = o .element;
-      })
+      read-after AlternativeAfter next x is (omega arith) (o .within)
+      (st .found
+      ∙ ap (finds FilledSpaced sign SlashPiece []) (ap (foundAt e Open text) (add-zero (sign + 1)) ∙ o .found))
+      (o .element)
 
   pub comment-after : (note : ℕ) (x : ElementPart) → getD text sign 0 ≡ 59 →
       note ≡ pastRun inComment text (sign + 1) → x ≡ partAfter end RuleAfter (note + 2) → AfterRead e text end x
@@ -123,27 +134,14 @@ module _ (e : Edition) (text : List ℕ) (end sign : ℕ) (signs : sign ≡ past
       let first = begun e (getD text note 0) (drop (note + 1) text) in
       let cr = noted e text note first (step e Noted text note l fine .allowed) in
       let ended = line-end e Noted text note refl l cr fine in
-      rw is
-      (record {
-        ends = refl;
-        order = omega arith;
-        within = ended .0;
-        says = sign-fine .says ∙ st .says ∙ ap (saidAt e Noted text) (sym notes) ∙ ended .1 .says;
-        after = ended .1 .fine;
-      })
+      read-after RuleAfter (note + 2) x is (omega arith) (ended .0)
+      (st .found ∙ ap (foundAt e Noted text) (sym notes) ∙ ended .1 .found) (ended .1 .fine)
 
   pub rule-after : (x : ElementPart) → getD text sign 0 ≡ 13 → x ≡ partAfter end RuleAfter (sign + 2) →
       AfterRead e text end x
   rule-after x byte is =
       let ended = line-end e FilledSpaced text sign refl sign-stands byte (sign-fine .fine) in
-      rw is
-      (record {
-        ends = refl;
-        order = omega arith;
-        within = ended .0;
-        says = sign-fine .says ∙ ended .1 .says;
-        after = ended .1 .fine;
-      })
+      read-after RuleAfter (sign + 2) x is (omega arith) (ended .0) (ended .1 .found) (ended .1 .fine)
 
   pub element-after : (x : ElementPart) → (getD text sign 0 ≡ 47 → ⊥) → (getD text sign 0 ≡ 59 → ⊥) →
       (getD text sign 0 ≡ 13 → ⊥) → x ≡ partAfter end ElementAfter sign → AfterRead e text end x
@@ -152,14 +150,8 @@ module _ (e : Edition) (text : List ℕ) (end sign : ℕ) (signs : sign ≡ past
       let s = drop (sign + 1) text in
       let same = element-alike e b s (begunAt e text sign) (begun e b s) n47 n59 n13 (sign-step .allowed) in
       let o = alike e FilledSpaced Open text sign sign-stands refl same (sign-fine .fine) in
-      rw is
-      (record {
-        ends = refl;
-        order = omega arith;
-        within = le-of-lt sign-stands;
-        says = sign-fine .says ∙ o .says;
-        after = record { inside = sign-stands; fine = o .fine; no-blank = rw signs (behind-run isWsp text end) };
-      })
+      read-after ElementAfter sign x is (omega arith) (le-of-lt sign-stands) (o .found)
+      (record { inside = sign-stands; fine = o .fine; no-blank = rw signs (behind-run isWsp text end) })
 
 -- the bytes of a literal, if a piece is one
 WhenLiteral : PieceKind → List ℕ → Type 0
@@ -183,14 +175,19 @@ when-literal (inr (literal-text r)) = is-literal r
 when-literal (inr (comment-text r)) = tt
 when-literal (inr end-text) = tt
 
+-- an element at an offset before what is found behind it
+abbrev elementFound : ℕ → Bool → List ℕ → Found → Found
+elementFound at literal s f =
+    record { said = elementSaid (elementOf literal s) (f .said); uses = usesIn at literal s ++ f .uses }
+
 -- an element stands at an offset, with n bytes after its first
 record ElementStep (e : Edition) (text : List ℕ) (at n : ℕ) : Type 0 where
   bytes : IsElement (not (isAlpha (getD text at 0))) (getD text at 0 ∷ take n (drop (at + 1) text))
   fine : FineAt e Filled text (at + 1 + n)
-  says :
-      saidAt e Open text at
-      ≡ elementSaid (elementOf (not (isAlpha (getD text at 0))) (getD text at 0 ∷ take n (drop (at + 1) text)))
-      (saidAt e Filled text (at + 1 + n))
+  found :
+      foundAt e Open text at
+      ≡ elementFound at (not (isAlpha (getD text at 0))) (getD text at 0 ∷ take n (drop (at + 1) text))
+      (foundAt e Filled text (at + 1 + n))
 
 element-step : (e : Edition) (text : List ℕ) (at : ℕ) {q : Begun} → Begins e (getD text at 0) (drop (at + 1) text) q →
     WhenLiteral (q .kind) (getD text at 0 ∷ take (q .more) (drop (at + 1) text)) → isWsp (getD text at 0) ≡ false →
@@ -200,14 +197,14 @@ element-step e text at (a-name h) w d st =
     record {
       bytes = rw h (rulename h (counted inName (drop (at + 1) text)));
       fine = st .fine;
-      says = rw h (st .says);
+      found = rw h (st .found);
     }
 element-step e text at (a-blank h) w d st = true-and-false h d
 element-step e text at (a-mark h) w d st = absurd (true≢false (st .allowed))
 element-step e text at (a-slash h) w d st = absurd (true≢false (st .allowed))
 element-step e text at (a-comment h) w d st = absurd (true≢false (st .allowed))
 element-step e text at (an-end h n) w d st = absurd (true≢false (st .allowed))
-element-step e text at (a-literal h) w d st = record { bytes = rw h w; fine = st .fine; says = rw h (st .says) }
+element-step e text at (a-literal h) w d st = record { bytes = rw h w; fine = st .fine; found = rw h (st .found) }
 element-step e text at none w d st = absurd (true≢false (st .allowed))
 
 module _ (e : Edition) (text : List ℕ) (at : ℕ) (h : ElementBegins e text at) where
@@ -231,15 +228,16 @@ module _ (e : Edition) (text : List ℕ) (at : ℕ) (h : ElementBegins e text at
       let n = begunAt e text at .more in
       let literal = not (isAlpha (getD text at 0)) in
       let part = part-begins text at n (h .inside) in
+      let s = partOf text at (at + 1 + n) in
+      let first : foundAt e Open text at ≡ elementFound at literal s (foundAt e Filled text (at + 1 + n)) =
+      rw part (stepped .found) in
       record {
         past = omega arith;
         order = r .order;
         within = r .within;
         bytes = rw part (stepped .bytes);
-        says =
-            stepped .says
-            ∙ ap (λ s. elementSaid (elementOf literal s) (saidAt e Filled text (at + 1 + n))) (sym part)
-            ∙ ap (elementSaid (elementOf literal (partOf text at (at + 1 + n)))) (r .says);
+        says = ap (λ (f : Found). f .said) first ∙ ap (elementSaid (elementOf literal s)) (r .says);
+        uses = ap (λ (f : Found). f .uses) first ∙ ap (λ us. usesIn at literal s ++ us) (r .uses);
         after = r .after;
       }
 

@@ -1,10 +1,11 @@
 -- Blanks before a sign or an element, and the start of a rule: its name, its mark, its first element. Assumes nothing.
-use Rattle.grammar.proofs.Basics.{ℕ, _+_, _≤_, _<_, List, _∷_, _≡_, refl, _∙_, sym, ap, Bool, true, false, cond, cases}
-use Rattle.grammar.proofs.Basics.{_⊎_, inl, inr, ⊎-elim, length, take, drop, getD, arith, true≢false, _||_}
+use Rattle.grammar.proofs.Basics.{ℕ, _+_, _≤_, _<_, List, _∷_, _≡_, refl, _∙_, sym, ap, ap₂, Bool, true, false, cond}
+use Rattle.grammar.proofs.Basics.{cases, _⊎_, inl, inr, ⊎-elim, length, take, drop, getD, arith, true≢false, _||_}
 use Rattle.grammar.proofs.Basics.{true-and-false, eqb, add-zero, le-of-lt, or-left}
 use lib.Seq.{drop-drop}
 use Rattle.abnf.specs.declared.Edition.{Edition}
 use Rattle.abnf.specs.declared.Begun.{Begun}
+use Rattle.abnf.specs.declared.Mark.{Mark}
 use Rattle.abnf.specs.declared.Mark.the-variants.{Defines, Adds}
 use Rattle.abnf.specs.declared.PieceKind.{PieceKind}
 use Rattle.abnf.specs.declared.PieceKind.the-variants.{NamePiece, MarkPiece, SlashPiece, BlankPiece, LiteralPiece}
@@ -15,13 +16,14 @@ use Rattle.abnf.specs.Bytes.{isAlpha, isDigit, isWsp, inName}
 use Rattle.abnf.specs.Text.{Rulename, rulename}
 use Rattle.abnf.specs.Pieces.{pieceOf, piece, span, begins}
 use Rattle.abnf.specs.Reading.{follows, isOutside, isLineStart, lineSaid, markSaid, markOf}
+use Rattle.abnf.specs.Uses.{heads}
 use Rattle.abnf.proofs.Spans.{blank-fails, behind-counted, begins-with, counted}
 use Rattle.scanner.specs.Parts.{partOf}
-use Rattle.cursor.specs.Cursor.{saidAt, FineAt, ElementBegins, HeadRead}
-use Rattle.cursor.proofs.Stepping.{Step, step, Same, alike, begunAt, begun, Begins, a-name, a-blank, a-mark}
-use Rattle.cursor.proofs.Stepping.{a-slash, a-comment, an-end, a-literal, none, within-text}
+use Rattle.cursor.specs.Cursor.{FineAt, ElementBegins, HeadRead}
+use Rattle.cursor.proofs.Stepping.{Found, foundAt, finds, Step, step, Same, onward, alike, begunAt, begun}
+use Rattle.cursor.proofs.Stepping.{Begins, a-name, a-blank, a-mark, a-slash, a-comment, an-end, a-literal}
+use Rattle.cursor.proofs.Stepping.{none, within-text, part-begins}
 use Rattle.scanner.proofs.Offsets.{here, begins-inside}
-use Rattle.cursor.proofs.Stepping.{part-begins}
 
 -- where the bytes that pass a test end, one after the other from an offset on
 abbrev pub pastRun : (ℕ → Bool) → List ℕ → ℕ → ℕ
@@ -51,8 +53,8 @@ past-blanks e σ text at l h =
     cases (isWsp (getD text at 0))
     (λ w.
     let st = rw (blank-begins e (getD text at 0) (drop (at + 1) text) w) at (step e σ text at l h) in
-    inl (rw (run-on isWsp text at l w) (record { fine = st .fine; says = st .says })))
-    (λ n. inr (rw (run-off isWsp text at l n) (record { fine = h; says = refl })))
+    inl (rw (run-on isWsp text at l w) (record { fine = st .fine; found = st .found })))
+    (λ n. inr (rw (run-off isWsp text at l n) (record { fine = h; found = refl })))
 
 -- a stage whose pieces other than blanks lead it where they lead after blanks: with or without them it goes on alike
 pub spaced : (e : Edition) (σ : Stage) (text : List ℕ) (at : ℕ) → isLineStart σ ≡ false →
@@ -71,8 +73,7 @@ spaced e σ text at f g agree h =
     let rest = drop (next + 1) text in
     let dark : isWsp b ≡ false = rw (here text next l) at (behind-run isWsp text at) in
     let same = agree b rest (begunAt e text next) (begun e b rest) dark (step e σ text next l (s .fine) .allowed) in
-    let o = alike e σ (follows σ BlankPiece) text next l (f ∙ sym g) same (s .fine) in
-    record { fine = o .fine; says = s .says ∙ o .says })
+    onward s (alike e σ (follows σ BlankPiece) text next l (f ∙ sym g) same (s .fine)))
     (past-blanks e σ text at (within-text e σ text at f h) h)
 
 -- where an element must follow, blanks change nothing
@@ -88,30 +89,26 @@ open-alike NoPiece a = refl
 
 pub record Opened (e : Edition) (text : List ℕ) (at next : ℕ) : Type 0 where
   pub within : next ≤ length text
-  pub says : saidAt e Open text at ≡ saidAt e Open text next
+  pub found : foundAt e Open text at ≡ foundAt e Open text next
   pub element : ElementBegins e text next
 
 pub opened : (e : Edition) (text : List ℕ) (at : ℕ) → FineAt e Open text at → Opened e text at (pastRun isWsp text at)
 opened e text at h =
     let next = pastRun isWsp text at in
+    let s : Same e text Open at Open next =
     ⊎-elim
     (λ s.
     let l = within-text e OpenSpaced text next refl (s .fine) in
     let same = open-alike (begunAt e text next .kind) (step e OpenSpaced text next l (s .fine) .allowed) in
-    let o = alike e OpenSpaced Open text next l refl same (s .fine) in
-    record {
-      within = le-of-lt l;
-      says = s .says ∙ o .says;
-      element = record { inside = l; fine = o .fine; no-blank = behind-run isWsp text at };
-    })
-    (λ s.
+    onward s (alike e OpenSpaced Open text next l refl same (s .fine)))
+    (λ s. s)
+    (past-blanks e Open text at (within-text e Open text at refl h) h) in
     let l = within-text e Open text next refl (s .fine) in
     record {
       within = le-of-lt l;
-      says = s .says;
+      found = s .found;
       element = record { inside = l; fine = s .fine; no-blank = behind-run isWsp text at };
-    })
-    (past-blanks e Open text at (within-text e Open text at refl h) h)
+    }
 
 -- a line begins with a name
 named : (e : Edition) (text : List ℕ) (at : ℕ) {q : Begun} → Begins e (getD text at 0) (drop (at + 1) text) q →
@@ -150,6 +147,10 @@ named-alike e b s q (an-end h n) d a = refl
 named-alike e b s q (a-literal h) d a = refl
 named-alike e b s q none d a = refl
 
+-- a rule's name and mark before what is found behind them
+abbrev headFound : ℕ → List ℕ → Mark → Found → Found
+headFound at n m f = record { said = lineSaid n (markSaid m (f .said)); uses = heads at n m ∷ f .uses }
+
 -- the start of a rule up to where its elements begin, after a mark with m bytes after its first
 record Begun-rule (e : Edition) (text : List ℕ) (at end sign m : ℕ) : Type 0 where
   past : at < end
@@ -157,10 +158,10 @@ record Begun-rule (e : Edition) (text : List ℕ) (at end sign m : ℕ) : Type 0
   stands : sign < length text
   name : Rulename (partOf text at end)
   fine : FineAt e Open text (sign + 1 + m)
-  says :
-      saidAt e LineStart text at
-      ≡ lineSaid (partOf text at end)
-      (markSaid (markOf (getD text sign 0 ∷ take m (drop (sign + 1) text))) (saidAt e Open text (sign + 1 + m)))
+  found :
+      foundAt e LineStart text at
+      ≡ headFound at (partOf text at end) (markOf (getD text sign 0 ∷ take m (drop (sign + 1) text)))
+      (foundAt e Open text (sign + 1 + m))
 
 module _ (e : Edition) (text : List ℕ) (at end sign : ℕ) (l : at < length text) (h : FineAt e LineStart text at)
     (ends : end ≡ pastRun inName text at) (signs : sign ≡ pastRun isWsp text end) where
@@ -185,52 +186,46 @@ module _ (e : Edition) (text : List ℕ) (at end sign : ℕ) (l : at < length te
         stands = stands;
         name = rw part (rulename (first .0) (counted inName rest));
         fine = m .fine;
-        says =
-            first .1 .says ∙ ap (λ n. lineSaid n (saidAt e Named text (at + 1 + span inName rest))) (sym part)
-            ∙ ap (λ k. lineSaid (partOf text at end) (saidAt e Named text k)) (sym size)
-            ∙ ap (lineSaid (partOf text at end)) (s .says ∙ ap (saidAt e NamedSpaced text) (sym signs) ∙ m .says);
+        found =
+            rw part
+            (first .1 .found
+            ∙ ap (finds LineStart at NamePiece (b ∷ take (span inName rest) rest))
+            (ap (foundAt e Named text) (sym size) ∙ s .found ∙ ap (foundAt e NamedSpaced text) (sym signs)
+            ∙ m .found));
       }
 
   pub past-mark : sign + 1 ≤ length text
   past-mark = omega (arith, rule-begins .stands)
 
-  -- the whole start, with a mark that adds and one that defines, as a test for the slash says
+  -- the whole start, with a mark of m bytes after its first
+  head-read : (m : ℕ) (mark : Mark) (body : ℕ) → cond (begins (eqb 47) (drop (sign + 1) text)) 1 0 ≡ m →
+      markOf (getD text sign 0 ∷ take m (drop (sign + 1) text)) ≡ mark → body ≡ pastRun isWsp text (sign + 1 + m) →
+      HeadRead e text at (record { end = end; mark = mark; body = body })
+  head-read m mark body size marks bodies =
+      let r = rw size at rule-begins in
+      let o = rw (← bodies) at (opened e text (sign + 1 + m) (r .fine)) in
+      let found = r .found ∙ ap₂ (headFound at (partOf text at end)) marks (o .found) in
+      record {
+        past = r .past;
+        order = omega (arith, r .order);
+        within = o .within;
+        name = r .name;
+        says = ap (λ (f : Found). f .said) found;
+        uses = ap (λ (f : Found). f .uses) found;
+        element = o .element;
+      }
+
+  -- it adds or defines as a test for the slash says
   module _ (slash : Bool) (slashes : slash ≡ begins (eqb 47) (drop (sign + 1) text)) where
     pub past-slash : slash ≡ true → sign + 1 + 1 ≤ length text
     past-slash t = omega (arith, begins-inside (eqb 47) text (sign + 1) (sym slashes ∙ t))
 
     pub adds-read : (body : ℕ) → slash ≡ true → body ≡ pastRun isWsp text (sign + 1 + 1) →
         HeadRead e text at (record { end = end; mark = Adds; body = body })
-    adds-read body t bodies =
-        let r = rw (sym slashes ∙ t) at rule-begins in
-        let o = rw (← bodies) at (opened e text (sign + 1 + 1) (r .fine)) in
-        record {
-          past = r .past;
-          order = omega (arith, r .order);
-          within = o .within;
-          name = r .name;
-          says =
-              r .says
-              ∙ ap (λ s. lineSaid (partOf text at end)
-              (markSaid (markOf (getD text sign 0 ∷ s)) (saidAt e Open text (sign + 1 + 1))))
-              (begins-with 47 (drop (sign + 1) text) (sym slashes ∙ t))
-              ∙ ap (λ x. lineSaid (partOf text at end) (markSaid Adds x)) (o .says);
-          element = o .element;
-        }
+    adds-read body t =
+        head-read 1 Adds body (rw (sym slashes ∙ t))
+        (ap (λ s. markOf (getD text sign 0 ∷ s)) (begins-with 47 (drop (sign + 1) text) (sym slashes ∙ t)))
 
     pub defines-read : (body : ℕ) → slash ≡ false → body ≡ pastRun isWsp text (sign + 1) →
         HeadRead e text at (record { end = end; mark = Defines; body = body })
-    defines-read body f bodies =
-        let r = rw (sym slashes ∙ f) at rule-begins in
-        let o = rw (← bodies) at (opened e text (sign + 1) (rw (add-zero (sign + 1)) at (r .fine))) in
-        record {
-          past = r .past;
-          order = omega (arith, r .order);
-          within = o .within;
-          name = r .name;
-          says =
-              r .says
-              ∙ ap (λ x. lineSaid (partOf text at end) (markSaid Defines x))
-              (ap (saidAt e Open text) (add-zero (sign + 1)) ∙ o .says);
-          element = o .element;
-        }
+    defines-read body f bodies = head-read 0 Defines body (rw (sym slashes ∙ f)) refl (rw (add-zero (sign + 1)) bodies)

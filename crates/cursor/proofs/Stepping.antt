@@ -1,7 +1,8 @@
--- One piece read at an offset: what may stand there, what is said and what is left. Assumes nothing.
-use Rattle.grammar.proofs.Basics.{ℕ, suc, _+_, _-_, _<_, List, [], _∷_, _≡_, refl, _∙_, ap, Bool, true}
-use Rattle.grammar.proofs.Basics.{false, cond, cases, length, take, drop, getD, drop-of-length-le}
+-- One piece read at an offset: what may stand there, what is said and used, and what is left. Assumes nothing.
+use Rattle.grammar.proofs.Basics.{ℕ, suc, _+_, _-_, _<_, List, [], _∷_, _++_, _≡_, refl, _∙_, ap, Bool, true}
+use Rattle.grammar.proofs.Basics.{false, cond, cases, length, take, drop, getD, drop-of-length-le, length-drop}
 use Rattle.grammar.proofs.Basics.{arith, false≢true, ltb, ltb-true, ltb-false, eqb, eqb-true, _&&_, _||_, not}
+use Rattle.grammar.proofs.Basics.{length-take-le}
 use lib.Seq.{drop-drop}
 use Rattle.abnf.specs.declared.Edition.{Edition}
 use Rattle.abnf.specs.declared.Begun.{Begun}
@@ -15,10 +16,12 @@ use Rattle.abnf.specs.Bytes.{isAlpha, isWsp, inName, inString, inComment, isHex
 use Rattle.abnf.specs.Pieces.{Piece, piecesOf, piecesFrom, pieceOf, piece, neither, span, begins, prefixed, percent}
 use Rattle.abnf.specs.Pieces.{hasPrefixes, quoted, value, dotted, valuesFrom, fit, isRange}
 use Rattle.abnf.specs.Reading.{follows, isOutside, isLineStart, faultFrom, saysFrom, says, Said}
+use Rattle.abnf.specs.Uses.{Use, usedBy, usesFrom}
 use Rattle.scanner.specs.Parts.{partOf}
-use Rattle.cursor.specs.Cursor.{saidAt, FineAt}
+use Rattle.cursor.specs.Cursor.{FineAt}
 use Rattle.abnf.proofs.Lexed.{skipped}
 use Rattle.scanner.proofs.Offsets.{here}
+use Rattle.scanner.proofs.PieceSizes.{piece-within}
 
 -- the bytes of a piece
 pub part-begins : (text : List ℕ) (at n : ℕ) → at < length text →
@@ -47,7 +50,30 @@ pieces-at e text at l =
     ∙ ap (λ ps. pieceAt e text at ∷ ps)
     (skipped e n (drop (at + 1) text) ∙ ap (piecesOf e) (drop-drop n (at + 1) text))
 
--- a fault or none does not depend on where the offsets begin
+-- its bytes end where the next piece begins
+piece-length : (e : Edition) (text : List ℕ) (at : ℕ) → at < length text →
+    at + length (pieceAt e text at .bytes) ≡ at + 1 + begunAt e text at .more
+piece-length e text at l =
+    let n = begunAt e text at .more in
+    let within = piece-within e text at l (begunAt e text at) refl in
+    rw (length-take-le n (drop (at + 1) text) (rw length-drop (omega arith))) (omega arith)
+
+-- what pieces say, and the uses of names among them, the first piece at an offset
+pub record Found : Type 0 where
+  pub said : Said
+  pub uses : List Use
+
+abbrev foundFrom : Stage → ℕ → List Piece → Found
+foundFrom σ at ps = record { said = saysFrom σ ps; uses = usesFrom σ at ps }
+
+abbrev pub foundAt : Edition → Stage → List ℕ → ℕ → Found
+foundAt e σ text at = foundFrom σ at (piecesOf e (drop at text))
+
+-- a piece at an offset before what is found behind it
+abbrev pub finds : Stage → ℕ → PieceKind → List ℕ → Found → Found
+finds σ at k b f = record { said = says σ k b (f .said); uses = usedBy σ at k b (f .said .mark) ++ f .uses }
+
+-- a fault is not none
 isNothing : Fault → Bool
 isNothing Nothing = true
 isNothing (At k) = false
@@ -56,37 +82,30 @@ no-fault : (k : ℕ) → At k ≡ Nothing → ⊥
 unfolding isNothing
 no-fault k h = false≢true (ap isNothing h)
 
-same-fault : (σ : Stage) (j k : ℕ) (ps : List Piece) → faultFrom σ j ps ≡ Nothing → faultFrom σ k ps ≡ Nothing
-unfolding faultFrom
-same-fault σ j k [] h = cases (isLineStart σ) (λ t. rw t) (λ f. absurd (no-fault j (rw f at h)))
-same-fault σ j k (p ∷ ps) h =
-    cases (isOutside (follows σ (p .kind)))
-    (λ o. absurd (no-fault j (rw o at h)))
-    (λ i. rw i (same-fault (follows σ (p .kind)) (j + length (p .bytes)) (k + length (p .bytes)) ps (rw i at h)))
-
 -- a piece of a kind with n bytes after its first stands at an offset and may stand there; the text goes on after it
 pub record Step (e : Edition) (σ : Stage) (text : List ℕ) (at : ℕ) (k : PieceKind) (n : ℕ) : Type 0 where
   pub allowed : isOutside (follows σ k) ≡ false
   pub fine : FineAt e (follows σ k) text (at + 1 + n)
-  pub says :
-      saidAt e σ text at
-      ≡ says σ k (getD text at 0 ∷ take n (drop (at + 1) text)) (saidAt e (follows σ k) text (at + 1 + n))
+  pub found :
+      foundAt e σ text at
+      ≡ finds σ at k (getD text at 0 ∷ take n (drop (at + 1) text)) (foundAt e (follows σ k) text (at + 1 + n))
 
 pub step : (e : Edition) (σ : Stage) (text : List ℕ) (at : ℕ) → at < length text → FineAt e σ text at →
     Step e σ text at (begunAt e text at .kind) (begunAt e text at .more)
-unfolding faultFrom saysFrom
+unfolding faultFrom saysFrom usesFrom
 step e σ text at l h =
     let k = begunAt e text at .kind in
-    let n = begunAt e text at .more in
+    let rest = piecesOf e (drop (at + 1 + begunAt e text at .more) text) in
+    let size = piece-length e text at l in
     let g = rw (pieces-at e text at l) at h in
     cases (isOutside (follows σ k))
     (λ o. absurd (no-fault at (rw o at g)))
     (λ i. record {
       allowed = i;
-      fine =
-          same-fault (follows σ k) (at + length (pieceAt e text at .bytes)) (at + 1 + n)
-          (piecesOf e (drop (at + 1 + n) text)) (rw i at g);
-      says = ap (saysFrom σ) (pieces-at e text at l);
+      fine = rw (i, size) at g;
+      found =
+          ap (foundFrom σ at) (pieces-at e text at l)
+          ∙ ap (λ j. finds σ at k (pieceAt e text at .bytes) (foundFrom (follows σ k) j rest)) size;
     })
 
 -- past the text only a line that is not begun is fine
@@ -98,37 +117,42 @@ within-text e σ text at f h =
     (λ t. ltb-true at (length text) t)
     (λ g. absurd (no-fault at (rw (drop-of-length-le text (ltb-false at (length text) g), f) at h)))
 
--- what a piece says depends on the stage only where a line begins
-says-alike : (σ τ : Stage) (k : PieceKind) (b : List ℕ) (x : Said) → isLineStart σ ≡ isLineStart τ →
-    says σ k b x ≡ says τ k b x
-says-alike σ τ NamePiece b x h = rw h
-says-alike σ τ MarkPiece b x h = refl
-says-alike σ τ SlashPiece b x h = refl
-says-alike σ τ BlankPiece b x h = refl
-says-alike σ τ LiteralPiece b x h = refl
-says-alike σ τ CommentPiece b x h = refl
-says-alike σ τ EndPiece b x h = refl
-says-alike σ τ NoPiece b x h = refl
+-- what is found at a piece depends on the stage only where a line begins
+finds-alike : (σ τ : Stage) (at : ℕ) (k : PieceKind) (b : List ℕ) (f : Found) → isLineStart σ ≡ isLineStart τ →
+    finds σ at k b f ≡ finds τ at k b f
+finds-alike σ τ at NamePiece b f h = rw h
+finds-alike σ τ at MarkPiece b f h = refl
+finds-alike σ τ at SlashPiece b f h = refl
+finds-alike σ τ at BlankPiece b f h = refl
+finds-alike σ τ at LiteralPiece b f h = refl
+finds-alike σ τ at CommentPiece b f h = refl
+finds-alike σ τ at EndPiece b f h = refl
+finds-alike σ τ at NoPiece b f h = refl
 
--- a stage at an offset is fine, and the text says there what it says at another
+-- a stage at an offset is fine, and there is found what is found at another
 pub record Same (e : Edition) (text : List ℕ) (σ : Stage) (at : ℕ) (τ : Stage) (next : ℕ) : Type 0 where
   pub fine : FineAt e τ text next
-  pub says : saidAt e σ text at ≡ saidAt e τ text next
+  pub found : foundAt e σ text at ≡ foundAt e τ text next
+
+pub onward : {e : Edition} {text : List ℕ} {σ τ υ : Stage} {at next last : ℕ} → Same e text σ at τ next →
+    Same e text τ next υ last → Same e text σ at υ last
+onward s t = record { fine = t .fine; found = s .found ∙ t .found }
 
 -- two stages that the next piece leads to one
 pub alike : (e : Edition) (σ τ : Stage) (text : List ℕ) (at : ℕ) → at < length text → isLineStart σ ≡ isLineStart τ →
     follows σ (begunAt e text at .kind) ≡ follows τ (begunAt e text at .kind) → FineAt e σ text at →
     Same e text σ at τ at
-unfolding faultFrom saysFrom
+unfolding faultFrom saysFrom usesFrom
 alike e σ τ text at l line same h =
     let k = begunAt e text at .kind in
     let rest = piecesOf e (drop (at + 1 + begunAt e text at .more) text) in
     let b = pieceAt e text at .bytes in
     record {
       fine = rw (pieces-at e text at l, ← same) (rw (pieces-at e text at l) at h);
-      says =
+      found =
           rw (pieces-at e text at l)
-          (says-alike σ τ k b (saysFrom (follows σ k) rest) line ∙ ap (λ υ. says τ k b (saysFrom υ rest)) same);
+          (finds-alike σ τ at k b (foundFrom (follows σ k) (at + length b) rest) line
+          ∙ ap (λ υ. finds τ at k b (foundFrom υ (at + length b) rest)) same);
     }
 
 -- what a piece that begins with the byte b, before the text s, is by that byte

@@ -18,7 +18,7 @@ conversion-path c d t w = λ i. record { taken = t i; written = w i }
 
 -- the first rule of a body of more than two, the rule of a body of two, and that of a shorter one
 module _ (fresh : ℕ → ℕ) (A : ℕ) where
-  split-first : (β : List ℕ) (c : Conversion) → 2 < length β →
+  pub split-first : (β : List ℕ) (c : Conversion) → 2 < length β →
       split fresh A β c
       ≡ split fresh (fresh (c .taken)) (drop 1 β) (takeOne (write (pairRecord A (getD β 0 0) (fresh (c .taken))) c))
   unfolding split
@@ -27,7 +27,7 @@ module _ (fresh : ℕ → ℕ) (A : ℕ) where
   split-first (X ∷ Y ∷ []) c h = absurd (omega arith)
   split-first (X ∷ Y ∷ Z ∷ β) c h = refl
 
-  split-last : (β : List ℕ) (c : Conversion) → length β ≡ 2 →
+  pub split-last : (β : List ℕ) (c : Conversion) → length β ≡ 2 →
       split fresh A β c ≡ write (pairRecord A (getD β 0 0) (getD β 1 0)) c
   unfolding split
   split-last [] c h = absurd (omega arith)
@@ -35,7 +35,7 @@ module _ (fresh : ℕ → ℕ) (A : ℕ) where
   split-last (X ∷ Y ∷ []) c h = refl
   split-last (X ∷ Y ∷ Z ∷ β) c h = absurd (omega arith)
 
-  split-none : (β : List ℕ) (c : Conversion) → length β < 2 → split fresh A β c ≡ write (shortRule A β) c
+  pub split-none : (β : List ℕ) (c : Conversion) → length β < 2 → split fresh A β c ≡ write (shortRule A β) c
   unfolding split
   split-none [] c h = refl
   split-none (X ∷ []) c h = refl

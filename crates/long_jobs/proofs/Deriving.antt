@@ -26,7 +26,7 @@ module _ (ws : List JobRecord) (fresh : ℕ → ℕ) (Q : Productions)
       Q (head (ruleOf r)) (body (ruleOf r))
   last r c w t = by r (w r (Memᴰ·append-right (c .written) (List·Memᴰ·head refl))) t
 
-  split-derives : (A : ℕ) (β : List ℕ) (c : Conversion) → Within ws (split fresh A β c) → Derives Q (A ∷ []) β
+  pub split-derives : (A : ℕ) (β : List ℕ) (c : Conversion) → Within ws (split fresh A β c) → Derives Q (A ∷ []) β
   unfolding split ruleOf
   split-derives A [] c w = derives-production (last (emptyRecord A) c w refl) none
   split-derives A (X ∷ []) c w = derives-production (last (unitRecord A X) c w refl) none

@@ -6,6 +6,7 @@ ghost use mathlib.Core.Path.{_≡_};
 ghost use mathlib.Core.List.{[]};
 ghost use Prim.Native.Nat.{_<_};
 ghost use lib.ListN.{length, getD};
+ghost use Rattle.long_jobs.specs.Inside.Parts.{shortRule};
 ghost use Rattle.long_jobs.specs.Dialect.{longRecords, isLong, bodyLength, bodyOf, shortOf, paddingOf, allBelow};
 
 // Record i of a long job.
@@ -98,4 +99,25 @@ pub fn all_symbols(bytes: &[u8]) -> bool
         i += 1;
     }
     true
+}
+
+// The rule of a body of none or one.
+pub fn short_rule(head: u8, body: &[u8]) -> JobRecord
+    requires short { ⌜ length (now body) < 2 ⌝ }
+    ensures rule { λ r. ⌜ r ≡ shortRule head (now (body .entry)) ⌝ }
+{
+    if body.len() == 0 {
+        return JobRecord {
+            kind: b'E',
+            first: head,
+            second: 0,
+            third: 0,
+        };
+    }
+    JobRecord {
+        kind: b'U',
+        first: head,
+        second: body[0],
+        third: 0,
+    }
 }

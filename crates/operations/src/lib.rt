@@ -34,6 +34,10 @@ pub use binarize::operation::binarize;
 // records: `cleanOf` (copies/specs/Operation). What holds of the copy stands in crate copies' specs/Theorems.
 pub use clean::operation::clean;
 
+// Reads an ABNF text: writes its job and the map of its characters, and answers how many records and characters these
+// are: `readOf` (abnf_jobs/specs/Operation). What holds of the job stands in crate abnf_jobs' specs/Theorems.
+pub use reader::operation::read_abnf;
+
 // Start on a bit table, of which it writes all of both halves: `startBitsOf` (bit_machine/specs/Operations).
 pub use bit_table::operations::start as start_bits;
 

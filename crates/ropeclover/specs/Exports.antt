@@ -10,6 +10,7 @@ use Rattle.forms.specs.declared.Explained.{Explained}
 use Rattle.verdicts.specs.declared.Verdicts.{Verdicts}
 use Rattle.long_jobs.specs.declared.Binarized.{Binarized}
 use Rattle.copies.specs.declared.Cleaned.{Cleaned}
+use Rattle.abnf_jobs.specs.declared.TextRead.{TextRead}
 use Rattle.bit_machine.specs.declared.Counted.{Counted}
 
 abbrev pub startNumbers : Started → List ℕ
@@ -36,6 +37,9 @@ binarizeNumbers a = a .number ∷ a .place ∷ a .records ∷ []
 
 abbrev pub cleanNumbers : Cleaned → List ℕ
 cleanNumbers a = a .number ∷ a .place ∷ a .records ∷ []
+
+abbrev pub readNumbers : TextRead → List ℕ
+readNumbers a = a .number ∷ a .place ∷ a .records ∷ a .characters ∷ []
 
 abbrev pub countNumbers : Counted → List ℕ
 countNumbers a = a .number ∷ a .place ∷ a .count ∷ []

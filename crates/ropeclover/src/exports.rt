@@ -13,9 +13,11 @@ ghost use Rattle.verdicts.specs.Operation.{verdictsOf};
 ghost use Rattle.ropeclover.specs.Exports.{startNumbers, advanceNumbers, askNumbers, explainNumbers};
 ghost use Rattle.long_jobs.specs.Operation.{binarizeOf};
 ghost use Rattle.copies.specs.Operation.{cleanOf};
+ghost use Rattle.abnf.specs.declared.Edition.the-variants.{Rfc5234};
+ghost use Rattle.abnf_jobs.specs.Operation.{readOf};
 ghost use Rattle.bit_machine.specs.Operations.{startBitsOf, advanceBitsOf, doneCountOf};
 ghost use Rattle.ropeclover.specs.Exports.{verdictsNumbers, showNumbers, binarizeNumbers, cleanNumbers};
-ghost use Rattle.ropeclover.specs.Exports.{countNumbers};
+ghost use Rattle.ropeclover.specs.Exports.{countNumbers, readNumbers};
 
 // The numbers of an answer.
 fn write2(answer: &mut [u64], a: u64, b: u64)
@@ -207,6 +209,30 @@ pub extern "C" fn ropeclover_clean(job: &[u8], out: &mut [u8], answer: &mut [u64
 {
     let r = operations::clean(job, out);
     write3(answer, r.number as u64, r.place as u64, r.records as u64);
+}
+
+#[no_mangle]
+pub extern "C" fn ropeclover_read_abnf(
+    text: &[u8],
+    map: &mut [u8],
+    job: &mut [u8],
+    answer: &mut [u64; 4],
+)
+    ensures answered { λ _. ⌜ now (answer .exit)
+        ≡ readNumbers (readOf Rfc5234 (now (text .entry)) (now (map .entry)) (now (job .entry)) .answer) ⌝ }
+    ensures map { λ _. ⌜ now (map .exit)
+        ≡ readOf Rfc5234 (now (text .entry)) (now (map .entry)) (now (job .entry)) .map ⌝ }
+    ensures job { λ _. ⌜ now (job .exit)
+        ≡ readOf Rfc5234 (now (text .entry)) (now (map .entry)) (now (job .entry)) .job ⌝ }
+{
+    let r = operations::read_abnf(text, map, job);
+    write4(
+        answer,
+        r.number as u64,
+        r.place as u64,
+        r.records as u64,
+        r.characters as u64,
+    );
 }
 
 #[no_mangle]

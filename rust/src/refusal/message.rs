@@ -1,8 +1,9 @@
 //! Refusals in words, with their places.
 use super::{Buffer, Refusal};
 use crate::text::ordinal;
-use crate::{BIT_TABLE_BYTES, BODY_SYMBOLS, CODES, FORM_SYMBOLS, JOB_BYTES, LISTING_RECORD_BYTES, LONG_JOB_BYTES};
-use crate::{LONG_RECORD_BYTES, REASONS, RECORD_BYTES, STATES, SYMBOLS, TABLE_BYTES, VARIABLES};
+use crate::{ABNF_BYTES, BIT_TABLE_BYTES, JOB_BYTES, LISTING_RECORD_BYTES, LONG_JOB_BYTES, LONG_RECORD_BYTES};
+use crate::{BODY_SYMBOLS, CODES, FORM_SYMBOLS, REASONS, RULES, STATES, SYMBOLS, VARIABLES};
+use crate::{MAP_BYTES, RECORD_BYTES, TABLE_BYTES};
 use std::fmt;
 
 /// A number of things in words: one has no plural.
@@ -22,6 +23,7 @@ impl fmt::Display for Refusal {
             Refusal::JobTooLong { bytes } => write!(f, "the job has {}", most(bytes, JOB_BYTES)),
             Refusal::LongJobTooLong { bytes } => write!(f, "the long job has {}", most(bytes, LONG_JOB_BYTES)),
             Refusal::WrittenTooLong { bytes } => write!(f, "the job written would have {}", most(bytes, JOB_BYTES)),
+            Refusal::TextTooLong { bytes } => write!(f, "the text has {}", most(bytes, ABNF_BYTES)),
             Refusal::UnknownKind { .. } => {
                 write!(f, "record {record} has an unknown kind byte; the kinds are E, U, P, T, I, F and S, and L in a long job")
             }
@@ -42,12 +44,18 @@ impl fmt::Display for Refusal {
             Refusal::TooManyWritten { most, .. } => {
                 write!(f, "the {} rule is written for record {record}; at most {most} are taken", ordinal(most + 1))
             }
+            Refusal::TooManyRulesRead { rule } => write!(
+                f,
+                "the text gives a {} rule; at most {RULES} different ones are taken",
+                ordinal(usize::try_from(*rule).unwrap_or(usize::MAX))
+            ),
             Refusal::NoStart { records } => missing(f, "S", "start symbol", *records),
             Refusal::NoInitial { records } => missing(f, "I", "initial state", *records),
             Refusal::ShortBuffer(Buffer::Table) => write!(f, "the lent table has fewer than {TABLE_BYTES} bytes"),
             Refusal::ShortBuffer(Buffer::Bits) => write!(f, "the lent bit table has fewer than {BIT_TABLE_BYTES} bytes"),
             Refusal::ShortBuffer(Buffer::Reasons) => write!(f, "the lent reasons are fewer than {REASONS} numbers"),
             Refusal::ShortBuffer(Buffer::Codes) => write!(f, "the lent codes have fewer than {CODES} bytes"),
+            Refusal::ShortBuffer(Buffer::Map) => write!(f, "the lent map has fewer than {MAP_BYTES} bytes"),
             Refusal::NoSymbol { position } => {
                 write!(f, "the form's byte at position {position} is over {symbol}, so it is no symbol")
             }
@@ -69,6 +77,21 @@ impl fmt::Display for Refusal {
             Refusal::IllPadded { .. } => write!(
                 f,
                 "record {record} has a length over {BODY_SYMBOLS}, or a byte past its body or fields that is not 0"
+            ),
+            Refusal::OutsideAbnf { offset } => {
+                write!(f, "the text leaves the part of ABNF that is read at offset {offset}")
+            }
+            Refusal::NameOutOfPlace { offset } => write!(
+                f,
+                "the name at offset {offset} has no rule, or it begins a rule by '=/' with no '=' above, or by '=' with one above"
+            ),
+            Refusal::TooManyVariables => write!(
+                f,
+                "the text takes more than {VARIABLES} variables: one for each name, for each letter of its strings, and for each tail of a body"
+            ),
+            Refusal::TooManyCharacters => write!(
+                f,
+                "the text uses more than {MAP_BYTES} characters, both cases of each letter of its strings included"
             ),
             Refusal::Other { number, place } => write!(f, "refused by {number} at {place}"),
         }

@@ -151,10 +151,35 @@ pub enum Refusal {
         /// The most rules that are taken.
         most: usize,
     },
-    /// 13, by [`binarize`](crate::binarize) and [`clean`](crate::clean): the job written does not fit into the lent buffer.
+    /// 13, by [`binarize`](crate::binarize), [`clean`](crate::clean) and [`read_abnf`](crate::read_abnf): the job written does not fit into the lent
+    /// buffer.
     JobTooShort {
         /// The records needed, 4 bytes each.
         records: u64,
+    },
+    /// 2, of a text: it has over [`ABNF_BYTES`](crate::ABNF_BYTES) bytes.
+    TextTooLong {
+        /// Its length.
+        bytes: u64,
+    },
+    /// 16: the text leaves the part of ABNF that is read.
+    OutsideAbnf {
+        /// The offset of the first byte outside it.
+        offset: u64,
+    },
+    /// 17: a name has no rule, or has `=/` and no `=` above it, or `=` and one above.
+    NameOutOfPlace {
+        /// The offset of the name's first byte.
+        offset: u64,
+    },
+    /// 18, place 1: the names, letters and tails of a text take over [`VARIABLES`](crate::VARIABLES) variables.
+    TooManyVariables,
+    /// 18, place 2: a text uses over 32 characters, both cases of a letter in a quoted string included.
+    TooManyCharacters,
+    /// 7, of a text: it takes more rules than a job may have.
+    TooManyRulesRead {
+        /// The number, from 1, of the rule after the last that is taken.
+        rule: u64,
     },
     /// A number that this version of the crate has no name for.
     Other {
@@ -176,7 +201,7 @@ impl Refusal {
     /// assert_eq!(Refusal::of(Operation::Binarize, 2, 16_388), Refusal::WrittenTooLong { bytes: 16_388 });
     /// ```
     pub fn of(operation: Operation, number: u64, place: u64) -> Self {
-        use Operation::{Binarize, Clean};
+        use Operation::{Binarize, Clean, ReadAbnf};
         let (at, most) = (Place { number: place, record_bytes: operation.record_bytes() }, operation.rules());
         match (number, operation) {
             (1, Binarize) => Refusal::PartialLongRecord { records: place },
@@ -184,6 +209,7 @@ impl Refusal {
             // What is written for an accepted long job is far shorter than the longest one.
             (2, Binarize) if place > LONG_JOB_BYTES as u64 => Refusal::LongJobTooLong { bytes: place },
             (2, Binarize) => Refusal::WrittenTooLong { bytes: place },
+            (2, ReadAbnf) => Refusal::TextTooLong { bytes: place },
             (2, _) => Refusal::JobTooLong { bytes: place },
             (3, _) => Refusal::UnknownKind { place: at },
             (4, _) => Refusal::FieldOutsideClass { place: at },
@@ -191,16 +217,21 @@ impl Refusal {
             (5, _) => Refusal::Repeated { place: at },
             (6, _) => Refusal::Second { place: at },
             (7, Binarize) => Refusal::TooManyWritten { place: at, most },
+            (7, ReadAbnf) => Refusal::TooManyRulesRead { rule: place },
             (7, _) => Refusal::TooManyRules { place: at, most },
             (8, _) => Refusal::NoStart { records: place },
             (9, _) => Refusal::NoInitial { records: place },
             (10, _) => operation.buffer(place).map_or(Refusal::Other { number, place }, Refusal::ShortBuffer),
             (11, _) => Refusal::NoSymbol { position: place },
             (12, _) => Refusal::FormTooLong { symbols: place },
-            (13, Binarize | Clean) => Refusal::JobTooShort { records: place },
+            (13, Binarize | Clean | ReadAbnf) => Refusal::JobTooShort { records: place },
             (13, _) => Refusal::ListingTooShort { records: place },
             (14, _) => Refusal::TooFewVariables { place: at },
             (15, _) => Refusal::IllPadded { place: at },
+            (16, _) => Refusal::OutsideAbnf { offset: place },
+            (17, _) => Refusal::NameOutOfPlace { offset: place },
+            (18, _) if place == 1 => Refusal::TooManyVariables,
+            (18, _) if place == 2 => Refusal::TooManyCharacters,
             _ => Refusal::Other { number, place },
         }
     }
@@ -209,24 +240,30 @@ impl Refusal {
     fn parts(self) -> (u64, u64) {
         match self {
             Refusal::PartialRecord { records } | Refusal::PartialLongRecord { records } => (1, records),
-            Refusal::JobTooLong { bytes } | Refusal::LongJobTooLong { bytes } | Refusal::WrittenTooLong { bytes } => {
-                (2, bytes)
-            }
+            Refusal::JobTooLong { bytes }
+            | Refusal::LongJobTooLong { bytes }
+            | Refusal::WrittenTooLong { bytes }
+            | Refusal::TextTooLong { bytes } => (2, bytes),
             Refusal::UnknownKind { place } => (3, place.number),
             Refusal::FieldOutsideClass { place } => (4, place.number),
             Refusal::Repeated { place } | Refusal::WrittenTwice { place } => (5, place.number),
             Refusal::Second { place } => (6, place.number),
             Refusal::TooManyRules { place, .. } | Refusal::TooManyWritten { place, .. } => (7, place.number),
+            Refusal::TooManyRulesRead { rule } => (7, rule),
             Refusal::NoStart { records } => (8, records),
             Refusal::NoInitial { records } => (9, records),
             Refusal::ShortBuffer(Buffer::Table | Buffer::Bits) => (10, 1),
             Refusal::ShortBuffer(Buffer::Reasons) => (10, 2),
-            Refusal::ShortBuffer(Buffer::Codes) => (10, 3),
+            Refusal::ShortBuffer(Buffer::Codes | Buffer::Map) => (10, 3),
             Refusal::NoSymbol { position } => (11, position),
             Refusal::FormTooLong { symbols } => (12, symbols),
             Refusal::ListingTooShort { records } | Refusal::JobTooShort { records } => (13, records),
             Refusal::TooFewVariables { place } => (14, place.number),
             Refusal::IllPadded { place } => (15, place.number),
+            Refusal::OutsideAbnf { offset } => (16, offset),
+            Refusal::NameOutOfPlace { offset } => (17, offset),
+            Refusal::TooManyVariables => (18, 1),
+            Refusal::TooManyCharacters => (18, 2),
             Refusal::Other { number, place } => (number, place),
         }
     }
@@ -241,7 +278,7 @@ impl Refusal {
         self.parts().0
     }
 
-    /// The place: a record, a position, a length, a count or a buffer, by the number.
+    /// The place: a record, a position, an offset, a length, a count or a buffer, by the number.
     ///
     /// ```
     /// use ropeclover::Refusal;
@@ -251,7 +288,7 @@ impl Refusal {
         self.parts().1
     }
 
-    /// The number, from 0, of the record that is refused, by 3 to 7, 14 and 15.
+    /// The number, from 0, of the record that is refused, by 3 to 7, 14 and 15; 7 of a text is of none.
     ///
     /// ```
     /// use ropeclover::{Operation, Refusal};
@@ -262,7 +299,7 @@ impl Refusal {
         self.record_place().map(Place::record)
     }
 
-    /// Where the record stands that is refused, by 3 to 7, 14 and 15.
+    /// Where the record stands that is refused, by 3 to 7, 14 and 15; 7 of a text is of none.
     ///
     /// ```
     /// use ropeclover::{Operation, Refusal};

@@ -20,6 +20,8 @@ pub enum Operation {
     Binarize,
     /// [`clean`](crate::clean).
     Clean,
+    /// [`read_abnf`](crate::read_abnf), which reads a text.
+    ReadAbnf,
 }
 
 impl Operation {
@@ -27,14 +29,14 @@ impl Operation {
     pub(super) fn record_bytes(self) -> usize {
         match self {
             Operation::Binarize => LONG_RECORD_BYTES,
-            Operation::Table | Operation::Bits | Operation::Clean => RECORD_BYTES,
+            Operation::Table | Operation::Bits | Operation::Clean | Operation::ReadAbnf => RECORD_BYTES,
         }
     }
 
     /// The most rules that it takes.
     pub(super) fn rules(self) -> usize {
         match self {
-            Operation::Table | Operation::Bits | Operation::Binarize | Operation::Clean => RULES,
+            Operation::Table | Operation::Bits | Operation::Binarize | Operation::Clean | Operation::ReadAbnf => RULES,
         }
     }
 
@@ -44,6 +46,7 @@ impl Operation {
             (1, Operation::Bits) => Some(Buffer::Bits),
             (1, _) => Some(Buffer::Table),
             (2, _) => Some(Buffer::Reasons),
+            (3, Operation::ReadAbnf) => Some(Buffer::Map),
             (3, _) => Some(Buffer::Codes),
             _ => None,
         }
@@ -68,4 +71,6 @@ pub enum Buffer {
     Reasons,
     /// The codes, [`CODES`](crate::CODES) long.
     Codes,
+    /// The map of characters, [`MAP_BYTES`](crate::MAP_BYTES) long.
+    Map,
 }

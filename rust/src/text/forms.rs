@@ -1,7 +1,7 @@
 //! Forms as they are typed: names, characters, and numbers.
 use super::error::UnknownSymbol;
 use super::names::{number, Names};
-use super::words::{form_words, Word};
+use super::words::{form_words, is_either_case, Word};
 use std::collections::BTreeSet;
 
 /// What a word of a form stands for.
@@ -67,7 +67,9 @@ impl Names {
             return Ok(Reading::Symbols(vec![symbol]));
         }
         if let Some(inner) = unquoted(word) {
-            let symbols = characters(inner).map(|character| self.character(character));
+            // A letter in both cases that names no symbol stands for what its signs stand for one by one.
+            let inner = if is_either_case(word) { inner.replace("\"/\"", "/") } else { inner.into() };
+            let symbols = characters(&inner).map(|character| self.character(character));
             return Ok(Reading::Symbols(symbols.collect::<Result<_, _>>()?));
         }
         let mut characters = word.chars();

@@ -13,8 +13,9 @@
 //! ```
 //!
 //! A line `name NUMBER NAME` names a symbol, `state NUMBER NAME` a state. A name is a letter or `_` followed by letters, digits, `_`, `-` and `.`,
-//! or a string in double quotes, in which `\"` and `\\` stand for a quote and a backslash. Name lines may stand anywhere. Symbols and states
-//! have names apart, and a record's field takes the names of its class.
+//! or a string in double quotes, in which `\"` and `\\` stand for a quote and a backslash. So are `%x0D`, a character by its number in two capital
+//! hexadecimal digits, and `"f"/"F"`, a letter in both cases, by which [`AbnfGrammar`](crate::AbnfGrammar) names symbols. Name lines may stand
+//! anywhere. Symbols and states have names apart, and a record's field takes the names of its class.
 //!
 //! A record has the fields that its kind uses: one of E, I, F and S, two of U, three of P and T. The zeros of a job's record behind them may be written
 //! out, as in `S 0 0 0`.
@@ -34,6 +35,7 @@ pub use error::{Problem, Span, TextError, UnknownSymbol};
 pub use names::Names;
 pub use parse::{names, read, FormLine, RecordPlace, Text, MOST_ERRORS};
 pub use print::{disassemble, long_spelling, print, spelling};
+pub(crate) use words::is_name;
 pub use words::{ordinal, plain};
 
 /// The job that a text spells, or the long job where a line has the kind L. The job itself is not checked. [`Text::ordinary`] gives a job in either

@@ -16,9 +16,21 @@ impl Word<'_> {
     }
 }
 
+/// Whether a text begins with the name of a letter in both cases, as `"f"/"F"`.
+pub(crate) fn is_either_case(text: &str) -> bool {
+    let bytes = text.as_bytes();
+    matches!(bytes, [b'"', small @ b'a'..=b'z', b'"', b'/', b'"', capital, b'"', ..] if *capital == small.to_ascii_uppercase())
+}
+
+/// The length of that name.
+const EITHER_CASE_BYTES: usize = 7;
+
 /// The length of the word that the text begins with: a string up to its closing quote, else up to a blank, a string or a comment, where there are
-/// any. None for a string that does not end.
+/// any; of a letter in both cases both strings. None for a string that does not end.
 fn word_length(text: &str, comments: bool) -> Option<usize> {
+    if is_either_case(text) {
+        return Some(EITHER_CASE_BYTES);
+    }
     if !text.starts_with('"') {
         let ends = |c: char| c.is_whitespace() || c == '"' || (comments && c == '#');
         return Some(text.char_indices().skip(1).find(|(_, c)| ends(*c)).map_or(text.len(), |(at, _)| at));
@@ -77,6 +89,9 @@ pub(crate) fn is_name(word: &str) -> bool {
     }
     if let Some(inner) = word.strip_prefix('"') {
         return word.len() > 2 && inner.chars().all(|c| c == ' ' || c.is_ascii_graphic() || c.is_alphanumeric());
+    }
+    if let Some(digits) = word.strip_prefix("%x") {
+        return digits.len() == 2 && digits.bytes().all(|b| matches!(b, b'0'..=b'9' | b'A'..=b'F'));
     }
     word.starts_with(|c: char| c.is_alphabetic() || c == '_')
         && word.chars().all(|c| c.is_alphanumeric() || matches!(c, '_' | '-' | '.'))
@@ -142,12 +157,23 @@ mod tests {
         assert_eq!(words("U 0 \"F"), Err(4));
     }
 
+    /// Two strings with a slash between them are one word where they are a small letter and its capital.
+    #[test]
+    fn letters_in_both_cases() {
+        assert_eq!(texts(r#"P 0 "f"/"F""x" # letters"#), ["P", "0", r#""f"/"F""#, r#""x""#]);
+        assert_eq!(texts(r#""F"/"f""#), [r#""F""#, "/", r#""f""#]);
+        assert_eq!(texts(r#""f"/"G""#), [r#""f""#, "/", r#""G""#]);
+        assert_eq!(texts(r#""1"/"1""#), [r#""1""#, "/", r#""1""#]);
+        assert_eq!(texts(r#""f"/ "F""#), [r#""f""#, "/", r#""F""#]);
+        assert_eq!(words(r#""f"/"F"#), Err(4));
+    }
+
     #[test]
     fn names() {
-        for name in ["memory", "_x", "old-scan.2", "\"S\"", "\" \"", "Größe"] {
+        for name in ["memory", "_x", "old-scan.2", "\"S\"", "\" \"", "Größe", "%x0D", "%xFF", "\"f\"/\"F\""] {
             assert!(is_name(name), "{name}");
         }
-        for word in ["", "3", "3a", "\"\"", "a b", "-x", "\"\x1b\"", "a\u{202e}"] {
+        for word in ["", "3", "3a", "\"\"", "a b", "-x", "\"\x1b\"", "a\u{202e}", "%x0d", "%x0", "%x00D", "%d13", "%"] {
             assert!(!is_name(word), "{word}");
         }
     }

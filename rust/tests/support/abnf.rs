@@ -20,21 +20,28 @@ pub struct Line {
 
 /// The lines of a text, or the offset at which it leaves the part.
 pub fn read(newer: bool, text: &[u8]) -> Result<Vec<Line>, usize> {
-    let mut reader = Reader { newer, text, at: 0 };
+    read_with_places(newer, text).map(|(lines, _)| lines)
+}
+
+/// The lines of a text, and where its names stand, one after the other; or the offset at which it leaves the part.
+pub fn read_with_places(newer: bool, text: &[u8]) -> Result<(Vec<Line>, Vec<usize>), usize> {
+    let mut reader = Reader { newer, text, at: 0, names: vec![] };
     let mut lines = vec![reader.rule()?];
     while reader.at < text.len() {
         lines.push(reader.rule()?);
     }
-    Ok(lines)
+    Ok((lines, reader.names))
 }
 
 struct Reader<'a> {
     newer: bool,
     text: &'a [u8],
     at: usize,
+    /// Where the names before stand.
+    names: Vec<usize>,
 }
 
-impl Reader<'_> {
+impl<'a> Reader<'a> {
     fn rest(&self) -> &[u8] {
         &self.text[self.at..]
     }
@@ -53,8 +60,9 @@ impl Reader<'_> {
     }
 
     /// Goes past all bytes that pass a test.
-    fn take_while(&mut self, test: impl Fn(u8) -> bool) -> Vec<u8> {
-        let taken: Vec<u8> = self.rest().iter().copied().take_while(|&b| test(b)).collect();
+    fn take_while(&mut self, test: impl Fn(u8) -> bool) -> &'a [u8] {
+        let rest = &self.text[self.at..];
+        let taken = &rest[..rest.iter().position(|b| !test(*b)).unwrap_or(rest.len())];
         self.at += taken.len();
         taken
     }
@@ -73,7 +81,10 @@ impl Reader<'_> {
 
     fn rulename(&mut self) -> Result<Vec<u8>, usize> {
         match self.next() {
-            Some(b) if b.is_ascii_alphabetic() => Ok(self.take_while(|b| b.is_ascii_alphanumeric() || b == b'-')),
+            Some(b) if b.is_ascii_alphabetic() => {
+                self.names.push(self.at);
+                Ok(self.take_while(|b| b.is_ascii_alphanumeric() || b == b'-').to_vec())
+            }
             _ => Err(self.at),
         }
     }
@@ -130,7 +141,7 @@ impl Reader<'_> {
         }
     }
 
-    fn quoted_string(&mut self) -> Option<Vec<u8>> {
+    fn quoted_string(&mut self) -> Option<&'a [u8]> {
         if !self.take(b"\"") {
             return None;
         }
@@ -176,8 +187,7 @@ impl Reader<'_> {
         if digits.is_empty() {
             return None;
         }
-        let digits = String::from_utf8(digits).ok()?;
-        let digits = digits.trim_start_matches('0');
+        let digits = std::str::from_utf8(digits).ok()?.trim_start_matches('0');
         Some(if digits.is_empty() { Some(0) } else { u64::from_str_radix(digits, 16).ok() })
     }
 

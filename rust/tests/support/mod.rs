@@ -1,6 +1,7 @@
 //! What the tests share: random numbers and jobs, and a machine written apart from the library, straight from the specification.
 #![allow(dead_code)]
 pub mod abnf;
+pub mod abnf_meaning;
 pub mod abnf_texts;
 pub mod bits;
 pub mod bits_run;
@@ -13,6 +14,7 @@ pub mod long;
 pub mod long_jobs;
 pub mod machine;
 pub mod productions;
+pub mod read_abnf;
 pub mod run;
 pub mod strings;
 pub mod verdicts;

@@ -2,8 +2,8 @@
 use Rattle.grammar.proofs.Basics.{_≡_, refl, List, _∷_, [], ℕ, arith, length, getD, needs}
 use Rattle.job.specs.Job.{emptyRecord, unitRecord}
 use Rattle.long_jobs.specs.Inside.Parts.{shortRule}
-use Rattle.binarize.proofs.convert.short_rule.Statement.{statement}
-use Rattle.binarize.proofs.convert.short_rule.Tie as tie
+use Rattle.long_records.proofs.dialect.short_rule.Statement.{statement}
+use Rattle.long_records.proofs.dialect.short_rule.Tie as tie
 
 of-none : (A : ℕ) (body : List ℕ) → length body ≡ 0 → emptyRecord A ≡ shortRule A body
 of-none A [] e = refl

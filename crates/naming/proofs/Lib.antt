@@ -1,0 +1,11 @@
+pub mod Names
+pub mod Comparing
+pub mod Entries
+pub mod Chains
+pub mod Added
+pub mod LineWalk
+pub mod LineNames
+pub mod Counts
+pub mod Collecting
+pub mod Mentioning
+pub mod NameFaults

@@ -1,0 +1,13 @@
+pub mod KeptItems
+pub mod LetterTables
+pub mod CharacterMarks
+pub mod KeyOrder
+pub mod BodiesWalked
+pub mod ReadyText
+pub mod CountedBodies
+pub mod OrderedRules
+pub mod Outcomes
+pub mod WrittenText
+pub mod EmptyTable
+pub mod CountingText
+pub mod PuttingText
