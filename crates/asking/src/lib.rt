@@ -1,4 +1,6 @@
 // Whether a form is accepted, on a table of bytes or of bits.
+#![tactic(auto)]
+
 pub mod acceptance;
 pub mod ask;
 

@@ -1,4 +1,6 @@
 // What the benchmarks measure by itself: a part of an operation, exported for them alone. The product links none of it.
+#![tactic(auto)]
+
 ghost use Rattle.std.specs.Prelude.{◌≡◌};
 ghost use Rattle.job.specs.Format.{records_of};
 ghost use Rattle.job.specs.Job.{states_of};

@@ -1,4 +1,6 @@
 // Binarize: a long job whose rules have bodies of up to eight symbols is written as an ordinary job.
+#![tactic(auto)]
+
 pub mod convert;
 pub mod fresh;
 pub mod operation;

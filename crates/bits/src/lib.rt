@@ -1,4 +1,6 @@
 // The bits of a table: of a place, of a row of 32 as a word, the ones of a word, and the count of the done places.
+#![tactic(auto)]
+
 pub mod count;
 pub mod table;
 pub mod word;

@@ -1,4 +1,6 @@
 // The bodies of an ABNF text, one after the other, with their items as numbers.
+#![tactic(auto)]
+
 pub mod items;
 pub mod places;
 
@@ -7,7 +9,7 @@ pub const ITEMS: usize = 35;
 
 // A body that is read: how many of its items are kept, whether its line ends, and the offset of what begins behind it,
 // another line then, else another body.
-#[derive(Drop)]
+#[derive(Clone, Copy)]
 pub struct BodyRead {
     pub kept: usize,
     pub ends: bool,
@@ -15,7 +17,7 @@ pub struct BodyRead {
 }
 
 // Where a body begins, if there is one more, and the number of its name.
-#[derive(Drop)]
+#[derive(Clone, Copy)]
 pub struct BodyPlace {
     pub more: bool,
     pub at: usize,

@@ -1,5 +1,7 @@
 // Runs the checks of a job on cases that need no more than them, and writes a line for each: number and place of the
 // answer, then the bytes of the record that showing gives back, if any.
+#![tactic(auto)]
+
 ghost use Rattle.std.specs.Prelude.{◌+◌, ◌*◌, ◌≤◌, length};
 
 use job::{Checked, JobRecord, Level};

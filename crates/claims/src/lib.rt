@@ -17,6 +17,8 @@
 // ranks in job, of steps, counts, reasons and turns in machine, of bits in bit_machine, of acceptance and listings in
 // forms, of codes, empty and growing in verdicts (over the papers' theorems in grammar), of what is written in
 // long_jobs and copies. What holds of whole lists of calls, on a table of bytes or of bits, is carried here.
+#![tactic(auto)]
+
 ghost use contract.Monad.{fact};
 ghost use Rattle.claims.specs.BitsAlike.{CallsAlike, RunsAlike};
 ghost use Rattle.claims.specs.Filed.{FiledGrammars};

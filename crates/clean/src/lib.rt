@@ -1,4 +1,6 @@
 // Clean copies: a job's useful rules, with their variables numbered from 0, written as a job.
+#![tactic(auto)]
+
 pub mod numbers;
 pub mod operation;
 pub mod rules;

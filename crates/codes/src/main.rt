@@ -1,5 +1,6 @@
 // Reads a job from standard input and prints a line 'SYMBOL CODE' for each symbol 0 to 63, or the line
 // 'refused N at P'.
+#![tactic(auto)]
 
 // One byte more than a job may have, so that longer input is refused as too long.
 const INPUT_BYTES: usize = 16385;

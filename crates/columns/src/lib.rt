@@ -1,4 +1,6 @@
 // The index of a bit table, made once a call: its columns, and where something is pending.
+#![tactic(auto)]
+
 pub mod index;
 pub mod turn;
 

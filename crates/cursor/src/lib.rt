@@ -1,11 +1,13 @@
 // The rules of an ABNF text of the part, one after the other: their alternatives, elements and characters.
+#![tactic(auto)]
+
 use abnf::{Character, Mark};
 
 pub mod literal;
 pub mod rules;
 
 // The start of a rule: where its name ends, its mark, and where its first element begins.
-#[derive(Drop)]
+#[derive(Clone, Copy)]
 pub struct Head {
     pub end: usize,
     pub mark: Mark,
@@ -13,7 +15,7 @@ pub struct Head {
 }
 
 // What stands after an element: another of the same alternative, another alternative, or the end of the rule.
-#[derive(Drop)]
+#[derive(Clone, Copy)]
 pub enum After {
     ElementAfter,
     AlternativeAfter,
@@ -21,7 +23,7 @@ pub enum After {
 }
 
 // An element: whether it is a literal or else a name, where it ends, and what stands after it at which offset.
-#[derive(Drop)]
+#[derive(Clone, Copy)]
 pub struct ElementPart {
     pub literal: bool,
     pub end: usize,
@@ -31,7 +33,7 @@ pub struct ElementPart {
 
 // The characters of a literal that are left, if there are more: the bytes between two offsets, which are the digits and
 // dots of a value or the characters themselves, of either case or as they are.
-#[derive(Drop)]
+#[derive(Clone, Copy)]
 pub struct Characters {
     pub at: usize,
     pub end: usize,
@@ -41,7 +43,7 @@ pub struct Characters {
 }
 
 // A character, and those that are left after it.
-#[derive(Drop)]
+#[derive(Clone, Copy)]
 pub struct Taken {
     pub character: Character,
     pub rest: Characters,

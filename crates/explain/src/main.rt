@@ -1,6 +1,8 @@
 // Reads a job from standard input and the symbols of a form, as decimal words, from the command line; without a word the
 // form is the start symbol, and one empty word is the empty form. Prints whether the form is accepted, the number of
 // records, and a line for each: the transition and why it is there; or the line 'refused N at P'.
+#![tactic(auto)]
+
 ghost use Rattle.std.specs.Prelude.{◌≡◌, ◌≤◌, length};
 
 use libc::STDERR_FILENO;
@@ -18,7 +20,7 @@ const MOST_WORDS: usize = 4096;
 const OUTPUT_BYTES: usize = 2424874;
 
 // A word of the command line as a symbol: whether it is a number from 0 to 255, and which.
-#[derive(Drop)]
+#[derive(Clone, Copy)]
 struct Word {
     ok: bool,
     symbol: u8,

@@ -1,4 +1,6 @@
 // Explain, for every input.
+#![tactic(auto)]
+
 ghost use Rattle.std.specs.Prelude.{◌≡◌, ◌≤◌, length};
 ghost use Rattle.job.specs.Job.{job_of};
 ghost use Rattle.machine.specs.Table.{lent_of};

@@ -10,7 +10,7 @@ use contract.Running.{tables}
 use denote.Triple.Clauses.{AtExit}
 use denote.Triple.Statement.{Triple}
 use mir.Syntax.{Fn}
-use prog.Routine.{Env, Name}
+use prog.Routine.{Env, Callee}
 use prog.Wp.{Closed, WpFn}
 use borrow.Fn.Function.{S}
 use borrow.Fn.Kind.{ParamKind, ResultKind}
@@ -73,7 +73,7 @@ module _ (φ : Type 1) (theorem : φ) where
             via w.𝓤 (sep w.𝓤 L (emp w.𝓤)) (mono_r w.𝓤 L (top w.𝓤 (fact w.𝓤 φ))) (base tt);
       }
 
-  pub carried : (w : World) (γ : Env) (k : Name) (e : Fn) →
+  pub carried : (w : World) (γ : Env) (k : Callee) (e : Fn) →
       Closed w.𝓤 w.𝓛.H (tables w.𝓤 w.𝓛.H w.𝓜 w.𝓡 γ).C (tables w.𝓤 w.𝓛.H w.𝓜 w.𝓡 γ).Λ k e →
       Triple w.𝓤
       (WpFn w.𝓤 w.𝓛.H (Over w.𝓛 w.𝓜 w.𝓡 γ).C

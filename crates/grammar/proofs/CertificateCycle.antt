@@ -118,6 +118,9 @@ module _ (u : ℕ → Bool) (rs : List Rule) (S : ℕ) (sound : (X : ℕ) → u 
   rule_leads (unit A Y) r (List·Memᴰ·head e) = rw e (Leads.by_unit r Leads.here)
   rule_leads (pair A Y W) r (List·Memᴰ·head e) = rw e (Leads.by_left r Leads.here)
   rule_leads (pair A Y W) r (List·Memᴰ·tail (List·Memᴰ·head e)) = rw e (Leads.by_right r Leads.here)
+  rule_leads (empty _) {Z = Z} r x3 = elim x3 [ ]
+  rule_leads (unit A Y) {Z = Z} r (List·Memᴰ·tail x7) = elim x7 [ ]
+  rule_leads (pair A Y W) {Z = Z} r (List·Memᴰ·tail (List·Memᴰ·tail x12)) = elim x12 [ ]
 
   -- the rule of a step, which is useful
   rule_of_lem : (f : Rule → Bool) → some (λ ρ. all_pass u ρ && f ρ) rs ≡ true → (ρ : Rule) × UR ρ × (f ρ ≡ true)

@@ -129,6 +129,7 @@ above_heads : (rs : List Rule) (ρ : Rule) → Among rs ρ → head ρ < above r
 unfolding above
 above_heads (σ ∷ σs) ρ (List·Memᴰ·head e) = rw e (omega arith)
 above_heads (σ ∷ σs) ρ (List·Memᴰ·tail m) = omega (arith, above_heads σs ρ m)
+above_heads [] ρ x' = elim x' [ ]
 
 module _ (rs : List Rule) (S : ℕ) where
   pub growing_is_cycle_lem : Growing (Among rs) S ↔ GrowingCycle (UsefulRules (Among rs) S)

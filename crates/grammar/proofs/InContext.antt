@@ -26,6 +26,9 @@ reached_up : {R : Rules} (X : ℕ) → Up (ProductionsOf R) (Reaches R X) (λ A.
 reached_up X _ _ (of_rule (unit A Y) r) (on c nil) = reached_trans (Reached.by_unit r Reached.start) c
 reached_up X _ _ (of_rule (pair A Y Z) r) (on c (cons g nil)) = reached_trans (Reached.by_left r g Reached.start) c
 reached_up X _ _ (of_rule (pair A Y Z) r) (past g (on c nil)) = reached_trans (Reached.by_right r g Reached.start) c
+reached_up {R = R} X _ _ (of_rule (Rattle.grammar.specs.Rule.empty _) r) x6 = elim x6 [ ]
+reached_up {R = R} X _ _ (of_rule (unit A Y) r) (past g x11) = elim x11 [ ]
+reached_up {R = R} X _ _ (of_rule (pair A Y Z) r) (past g (past _ x16)) = elim x16 [ ]
 
 -- X is reached from S where S derives a form around X whose other symbols generate
 pub around_reached : {R : Rules} {S : ℕ} {α β : List ℕ} (X : ℕ) →
@@ -36,6 +39,7 @@ around_reached {R} {S} X g h d =
   where
     first : Reaches R X (S ∷ []) → Reached R S X
     first (on c nil) = c
+    first (past _ x6) = elim x6 [ ]
 
 module _ (R : Rules) (S X : ℕ) where
   pub in_context_reached : InContext R S X → Reached R S X

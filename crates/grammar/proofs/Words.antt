@@ -29,6 +29,7 @@ unfolding extended
 extended_has {xs = y ∷ ys} ws (List·Memᴰ·head e) m =
     rw e (Memᴰ·append-left (extended ys ws) (Memᴰ.map (λ w. y ∷ w) m))
 extended_has {xs = y ∷ ys} ws (List·Memᴰ·tail k) m = Memᴰ·append-right (map (λ w. y ∷ w) ws) (extended_has ws k m)
+extended_has {xs = []} {w = w} ws x6 m = elim x6 [ ]
 
 -- the strings of at most n symbols
 unfoldable pub strings : ℕ → List (List ℕ)

@@ -1,11 +1,13 @@
 // The symbols of a grammar. The papers' definitions stand in specs/, the theorems about them in proofs/.
+#![tactic(auto)]
+
 ghost use Rattle.std.specs.Prelude.{◌≡◌, ltb};
 ghost use Rattle.grammar.specs.Symbol.{class_of, is_terminal_lem};
 
 pub mod theorems;
 
 // What a byte stands for in a rule or a form.
-#[derive(Drop)]
+#[derive(Clone, Copy)]
 pub enum SymbolClass {
     Variable,
     Terminal,

@@ -20,7 +20,7 @@ has_member [] r e = absurd (false≢true e)
 has_member (x ∷ xs) r e =
     ⊎_elim (λ p. List·Memᴰ·head (sym (same_equal x r p))) (λ q. List·Memᴰ·tail (has_member xs r q)) (or_split _ _ e)
 
-pub member_has : {rs : List JobRecord} {r : JobRecord} → List·Memᴰ r rs → has rs r ≡ true
+pub member_has : {r : JobRecord} {rs : List JobRecord} → List·Memᴰ r rs → has rs r ≡ true
 unfolding has
 member_has (List·Memᴰ·head e) = simp (e, eq-eqb)
 member_has (List·Memᴰ·tail m) = simp (member_has m, or-true)

@@ -26,15 +26,16 @@ insert_member r x (y ∷ ys) m =
     (λ n. ⊎_elim List·Memᴰ·head (λ k. List·Memᴰ·tail (insert_member r x ys (inr k))) (List·Memᴰ·cases-cons n)) m))
 
 -- a rule among the records is among the sorted rules
-member_sorted : {rs : List JobRecord} {x : JobRecord} → List·Memᴰ x rs → is_rule_lem x ≡ true
+member_sorted : {x : JobRecord} {rs : List JobRecord} → List·Memᴰ x rs → is_rule_lem x ≡ true
     → List·Memᴰ x (sorted_rules_lem rs)
 unfolding sorted_rules_lem
-member_sorted {rs = r ∷ rs} {x = x} (List·Memᴰ·head e) t =
+member_sorted {x = x} {rs = r ∷ rs} (List·Memᴰ·head e) t =
     rw (ap is_rule_lem (sym e) ∙ t) (insert_member r x (sorted_rules_lem rs) (inl e))
-member_sorted {rs = r ∷ rs} {x = x} (List·Memᴰ·tail m) t =
+member_sorted {x = x} {rs = r ∷ rs} (List·Memᴰ·tail m) t =
     cases (is_rule_lem r)
     (λ u. rw u (insert_member r x (sorted_rules_lem rs) (inr (member_sorted m t))))
     (λ u. rw u (member_sorted m t))
+member_sorted {x = x} {rs = []} x6 t = elim x6 [ ]
 
 -- the members of one list are members of the other
 abbrev Inside : List JobRecord → List JobRecord → Type 0
@@ -63,13 +64,13 @@ rising_equal (x ∷ xs) (y ∷ ys) h k i j =
     ap₂ ◌∷◌ first (rising_equal xs ys h.1 k.1 (inside_rest first h i) (inside_rest (sym first) k j))
 
 -- a record counts for its kind
-member_counted : (k : ℕ) {rs : List JobRecord} {r : JobRecord} → List·Memᴰ r rs → r.kind ≡ k → 0 < count_kind k rs
+member_counted : (k : ℕ) {r : JobRecord} {rs : List JobRecord} → List·Memᴰ r rs → r.kind ≡ k → 0 < count_kind k rs
 unfolding count_kind
 member_counted k (List·Memᴰ·head e) q = rw (← e, eq-eqb _ k q) (omega arith)
 member_counted k (List·Memᴰ·tail m) q = omega (arith, member_counted k m q)
 
 -- the field of a kind that stands at most once is that of any record of the kind
-only_field : (k : ℕ) {rs : List JobRecord} {r : JobRecord} → count_kind k rs ≤ 1 → List·Memᴰ r rs → r.kind ≡ k
+only_field : (k : ℕ) {r : JobRecord} {rs : List JobRecord} → count_kind k rs ≤ 1 → List·Memᴰ r rs → r.kind ≡ k
     → field_of k rs ≡ r.first
 unfolding count_kind field_of
 only_field k h (List·Memᴰ·head e) q = rw (← e, eq-eqb _ k q)

@@ -30,7 +30,7 @@ record_least r s above =
     (λ u. rw (t, u) (omega arith)))
 
 -- the same for all records
-pub named_below_all : {rs : List JobRecord} {r : JobRecord} (q : ℕ) → List·Memᴰ r rs → NamesState r q → q < states_of rs
+pub named_below_all : {r : JobRecord} {rs : List JobRecord} (q : ℕ) → List·Memᴰ r rs → NamesState r q → q < states_of rs
 unfolding states_of
 named_below_all {r = r} q (List·Memᴰ·head e) n = omega (arith, named_below r q n, ap states_in_lem e)
 named_below_all q (List·Memᴰ·tail m) n = omega (arith, named_below_all q m n)

@@ -1,4 +1,5 @@
 // The job: its record format, its checks, and what its records say once their order is gone.
+#![tactic(auto)]
 
 pub mod theorems;
 
@@ -30,7 +31,7 @@ pub const REASON_NUMBERS: usize = 32768;
 pub const CODE_BYTES: usize = 64;
 
 // The four bytes of a record.
-#[derive(Drop)]
+#[derive(Clone, Copy)]
 pub struct JobRecord {
     pub kind: u8,
     pub first: u8,
@@ -39,7 +40,7 @@ pub struct JobRecord {
 }
 
 // A rule as its sort key has it: the head, the kind byte and the other two fields.
-#[derive(Drop)]
+#[derive(Clone, Copy)]
 pub struct RuleFields {
     pub head: u8,
     pub kind: u8,
@@ -48,7 +49,7 @@ pub struct RuleFields {
 }
 
 // What a field may hold.
-#[derive(Drop)]
+#[derive(Clone, Copy)]
 pub enum FieldClass {
     Zero,
     Variable,
@@ -57,33 +58,33 @@ pub enum FieldClass {
 }
 
 // How many rules a job may have.
-#[derive(Drop)]
+#[derive(Clone, Copy)]
 pub struct Limits {
     pub rules: usize,
 }
 
 // What a key is sold with, which says what the limits of a call are. Today every key has the full limits.
-#[derive(Drop)]
+#[derive(Clone, Copy)]
 pub enum Level {
     Full,
 }
 
 // The number of a refusal and its place; 0 and 0 where nothing is refused.
-#[derive(Drop)]
+#[derive(Clone, Copy)]
 pub struct Checked {
     pub number: usize,
     pub place: usize,
 }
 
 // A part of a job's bytes.
-#[derive(Drop)]
+#[derive(Clone, Copy)]
 pub struct Part {
     pub offset: usize,
     pub length: usize,
 }
 
 // How many rules, S records and I records were seen.
-#[derive(Drop)]
+#[derive(Clone, Copy)]
 pub struct Tally {
     pub rules: usize,
     pub starts: usize,

@@ -1,6 +1,8 @@
 // The listing: depth first down the reasons, premises before what they explain, each transition once. The path is
 // kept in a local array, as a chain of reasons can be tens of thousands long. Rules are read from their sort keys, at
 // their ranks.
+#![tactic(auto)]
+
 ghost use Rattle.std.specs.Prelude.{◌≡◌, cond, [], ◌∷◌, ◌+◌, ◌<◌, ◌≤◌, eqb, leb, length, take};
 ghost use Rattle.std.proofs.lemmas.List.Edits.{sets};
 ghost use Rattle.job.specs.Inside.Keys.{rule_of_key};
@@ -16,7 +18,7 @@ use forms::ReasonBytes;
 use transitions::{GIVEN_REASON, STATE_PLACES, STATE_REASONS, TURN};
 
 // A walk down the reasons: how long its path is, and how many transitions are listed.
-#[derive(Drop)]
+#[derive(Clone, Copy)]
 pub struct PathWalk {
     pub depth: usize,
     pub count: usize,

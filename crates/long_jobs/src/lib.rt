@@ -1,9 +1,11 @@
 // Binarize: a long job whose rules have bodies of up to eight symbols is written as an ordinary job.
+#![tactic(auto)]
+
 pub mod theorems;
 
 // What binarize answers: a refusal's number and place, 0 and 0 where nothing is refused, and the number of records
 // written.
-#[derive(Drop)]
+#[derive(Clone, Copy)]
 pub struct Binarized {
     pub number: usize,
     pub place: usize,
@@ -11,14 +13,14 @@ pub struct Binarized {
 }
 
 // How far a conversion is: how many free variables are taken, and how many records are written.
-#[derive(Drop)]
+#[derive(Clone, Copy)]
 pub struct Progress {
     pub taken: usize,
     pub count: usize,
 }
 
 // The number of a refusal, 0 for none, and how many rules are written.
-#[derive(Drop)]
+#[derive(Clone, Copy)]
 pub struct RuleCount {
     pub number: usize,
     pub rules: usize,
@@ -26,7 +28,7 @@ pub struct RuleCount {
 
 // Where the second walk stands: the number of a refusal, 0 for none, how many free variables are taken, and how many
 // records and how many rules are written.
-#[derive(Drop)]
+#[derive(Clone, Copy)]
 pub struct WalkState {
     pub number: usize,
     pub taken: usize,
@@ -35,7 +37,7 @@ pub struct WalkState {
 }
 
 // What the second walk comes to: a refusal's number and place, 0 and 0 for none, and how many records are written.
-#[derive(Drop)]
+#[derive(Clone, Copy)]
 pub struct WalkEnd {
     pub number: usize,
     pub place: usize,

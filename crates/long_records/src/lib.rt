@@ -1,4 +1,6 @@
 // The records of long jobs: reading them, and the first walk over them.
+#![tactic(auto)]
+
 pub mod check;
 pub mod dialect;
 

@@ -1,9 +1,11 @@
 // The machine as definitions: the table and the reasons, start, one step, advance, the smallest set, reasons and turns;
 // and what is proved of them. There is no code here but the shapes of the answers.
+#![tactic(auto)]
+
 pub mod theorems;
 
 // What start answers: a refusal's number and place, 0 and 0 where nothing is refused, and the number of states.
-#[derive(Drop)]
+#[derive(Clone, Copy)]
 pub struct Started {
     pub number: usize,
     pub place: usize,
@@ -12,7 +14,7 @@ pub struct Started {
 
 // What advance answers: a refusal's number and place, whether no pending byte is left, the steps made and the rise in
 // pair meetings.
-#[derive(Drop)]
+#[derive(Clone, Copy)]
 pub struct Advanced {
     pub number: usize,
     pub place: usize,
@@ -24,7 +26,7 @@ pub struct Advanced {
 // A walk over 32 partners of a taken transition: the place of the first partner, that of what it gives and that of
 // its entry among the reasons, and the strides to the next ones. The partner at the skipped place is left out; each
 // other that is done gives its transition with the entry.
-#[derive(Drop)]
+#[derive(Clone, Copy)]
 pub struct PartnerWalk {
     pub partner: usize,
     pub place: usize,

@@ -1,4 +1,6 @@
 // The names of an ABNF text: their numbers in a table by hash, and refusal 17.
+#![tactic(auto)]
+
 pub mod lines;
 pub mod parts;
 pub mod table;
@@ -10,14 +12,14 @@ pub const NAMES: usize = 5462;
 pub const BUCKETS: usize = 1024;
 
 // The bytes of a text from an offset up to another.
-#[derive(Drop)]
+#[derive(Clone, Copy)]
 pub struct Part {
     pub at: usize,
     pub end: usize,
 }
 
 // Whether all names of a line after an offset have rules: the offset of the first that has none, or of the next line.
-#[derive(Drop)]
+#[derive(Clone, Copy)]
 pub struct Mentioned {
     pub missing: bool,
     pub at: usize,

@@ -1,6 +1,7 @@
 // The operations, one line each. No call needs anything of its input: whatever is wrong with it is refused, with a number
 // and a place. The contract of each equates what it leaves, the answer and every byte that was lent, with the
 // definition that is named here; it stands at the function itself.
+#![tactic(auto)]
 
 // Writes the table and the reasons that the job starts from, and answers its number of states: `start_of`
 // (machine/specs/Operations).

@@ -1,5 +1,7 @@
 // Bytes and bits: what a table of bytes says is packed into a bit table, and where a bit table says something new, the
 // byte is written.
+#![tactic(auto)]
+
 pub mod merge;
 pub mod pack;
 
@@ -12,7 +14,7 @@ pub const TABLE_PARTS: usize = 512;
 pub const HALF_PARTS: usize = 64;
 
 // What the 32 bytes of a row say, as two words.
-#[derive(Drop)]
+#[derive(Clone, Copy)]
 pub struct RowWords {
     pub pending: u32,
     pub done: u32,

@@ -1,10 +1,12 @@
 // The very bytes that the programs print, written into a lent buffer.
+#![tactic(auto)]
+
 pub mod operations;
 pub mod outputs;
 pub mod theorems;
 
 // What the report says of a job: a refusal's number and place, 0 and 0 where nothing is refused, and the six values.
-#[derive(Drop)]
+#[derive(Clone, Copy)]
 pub struct Report {
     pub number: usize,
     pub place: usize,
@@ -17,7 +19,7 @@ pub struct Report {
 }
 
 // What writing an output answers: a refusal's number and place, 0 and 0 where nothing is refused, and the bytes written.
-#[derive(Drop)]
+#[derive(Clone, Copy)]
 pub struct Written {
     pub number: usize,
     pub place: usize,

@@ -1,5 +1,7 @@
 // Records in a buffer: reading and writing them, room for them, a start symbol with its rules, sort keys; clearing a
 // table.
+#![tactic(auto)]
+
 ghost use Rattle.std.specs.Prelude.{◌≡◌};
 ghost use Rattle.grammar.specs.Counting.{one_if_lem};
 

@@ -1,5 +1,6 @@
 // Reads a job from standard input and prints six lines: states, examined, joins, start, empty, growing; or the line
 // 'refused N at P'.
+#![tactic(auto)]
 
 // One byte more than a job may have, so that longer input is refused as too long.
 const INPUT_BYTES: usize = 16385;

@@ -1,8 +1,10 @@
 // Saturation: a counted number of steps on a bit table.
+#![tactic(auto)]
+
 pub mod run;
 
 // What a run leaves to say: whether nothing is pending, the steps made and the rise in pair meetings.
-#[derive(Drop)]
+#[derive(Clone, Copy)]
 pub struct Ended {
     pub finished: bool,
     pub steps: u64,

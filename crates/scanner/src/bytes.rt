@@ -6,7 +6,7 @@ ghost use Rattle.scanner.specs.Classes.{test_of};
 
 // What a stretch of bytes consists of: the bytes of a name after its first, blanks, what may stand between quotes or in a
 // comment, hexadecimal digits.
-#[derive(Drop)]
+#[derive(Clone, Copy)]
 pub enum ByteClass {
     Name,
     Wsp,

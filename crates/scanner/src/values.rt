@@ -8,7 +8,7 @@ use crate::bytes;
 use crate::bytes::ByteClass;
 
 // Where the numbers go on after one: its value, the offset after its dot, and whether it has one.
-#[derive(Drop)]
+#[derive(Clone, Copy)]
 pub struct ValueEnd {
     pub value: usize,
     pub next: usize,

@@ -1,5 +1,7 @@
 // The scan of ABNF text and its cursor, exported for tests alone. The product links none of it. The cursor is for texts of
 // the part, at the offsets that the calls before it gave.
+#![tactic(auto)]
+
 ghost use Rattle.std.specs.Prelude.{◌≡◌, true, ◌≤◌, ◌<◌, length};
 ghost use Rattle.abnf.specs.declared.Stage.TheVariants.{LineStart};
 ghost use Rattle.abnf.specs.Reading.{fault_of};

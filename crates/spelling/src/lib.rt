@@ -1,4 +1,6 @@
 // Numbers, words and lines as the programs print them, put into a lent buffer.
+#![tactic(auto)]
+
 pub mod lines;
 pub mod pieces;
 pub mod records;

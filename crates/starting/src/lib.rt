@@ -1,2 +1,4 @@
 // The bit table and the reasons that a job starts from.
+#![tactic(auto)]
+
 pub mod begin;

@@ -1,2 +1,4 @@
 // One step on a bit table.
+#![tactic(auto)]
+
 pub mod step;

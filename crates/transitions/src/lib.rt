@@ -1,5 +1,7 @@
 // What a step goes over: a transition's byte and its entry among the reasons, its partners, and the rules by the
 // symbols of their bodies.
+#![tactic(auto)]
+
 pub mod clear;
 pub mod step;
 pub mod table;
