@@ -43,6 +43,7 @@ module _ (d : Direction) where
       in_place_keeps σs (round d (σ ∷ []) s) X (round_adds d (σ ∷ []) s ρ (List·Memᴰ·head e) X r t)
   in_place_adds (σ ∷ σs) s ρ (List·Memᴰ·tail m) X r t =
       in_place_adds σs (round d (σ ∷ []) s) ρ m X (ready_grows d (round_keeps d (σ ∷ []) s) ρ r) t
+  in_place_adds [] s ρ x3 X r t = elim x3 [ ]
 
   -- a pass that adds none of the 64 symbols
   idle_closed : (rules : List Rule) (s : ℕ → Bool) → Below 64 rules → count s 64 ≡ count (in_place d rules s) 64 →

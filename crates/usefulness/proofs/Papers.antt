@@ -136,6 +136,9 @@ module _ (rules : List Rule) (below : Below 64 rules) where
     leads_rule (unit A X) m (here (Z, e, l)) = (Z, e, Leads.by_unit m l)
     leads_rule (pair A X Y) m (here (Z, e, l)) = (Z, e, Leads.by_left m l)
     leads_rule (pair A X Y) m (there (here (Z, e, l))) = (Z, e, Leads.by_right m l)
+    leads_rule (empty _) m x3 = elim x3 [ ]
+    leads_rule (unit A X) m (there x6) = elim x6 [ ]
+    leads_rule (pair A X Y) m (there (there x10)) = elim x10 [ ]
 
     leads_sound : (X : ℕ) → leads rules set X ≡ true → LeadsTo X
     unfolding leads

@@ -94,6 +94,7 @@ pub rule_any :
 unfolding any_rule
 rule_any test (σ ∷ σs) ρ (List·Memᴰ·head e) t = rw (← e, t)
 rule_any test (σ ∷ σs) ρ (List·Memᴰ·tail m) t = simp (rule_any test σs ρ m t, or-true)
+rule_any test [] ρ x'' t = elim x'' [ ]
 
 -- one rule more
 pub any_rule_more : (test : Rule → Bool) (rules : List Rule) (ρ : Rule) →
@@ -121,6 +122,7 @@ module _ (set : ℕ → Bool) where
   among_within (σ ∷ σs) ρ (List·Memᴰ·tail m) t =
       let n = among_within σs ρ m t in
       cases (rule_in set σ) (λ e. rw e (List·Memᴰ·tail n)) (λ e. rw e n)
+  among_within [] ρ x'' t = elim x'' [ ]
 
   -- of two lists one behind the other
   pub within_append : (rules more : List Rule) → within set (rules ++ more) ≡ within set rules ++ within set more
