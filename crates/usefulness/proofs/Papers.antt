@@ -170,6 +170,7 @@ module _ (rules : List Rule) (below : Below 64 rules) where
   )
 
   pub to_terminal_is : (X : ℕ) → (to_terminal rules X ≡ true) ↔ LeadsToTerminal (Among rules) X
+  unfolding leads
   to_terminal_is X = (
     λ e. let (a, t, l) = leads_sound is_terminal_lem X e in (a, terminal_test a t, l),
     λ t. leads_complete is_terminal_lem t.2 (test_terminal t.0 t.1),
