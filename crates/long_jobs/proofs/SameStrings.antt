@@ -95,6 +95,7 @@ module _ (rs : List (List ℕ)) where
     unfolding Terminals
     terminals_stand (Y ∷ w) t X (List·Memᴰ·head e) = terminal_stands X (omega (arith, e, t.0.0))
     terminals_stand (Y ∷ w) t X (List·Memᴰ·tail m) = terminals_stand w t.1 X m
+    terminals_stand [] t X x'' = elim x'' [ ]
 
     same_by_records : (A : ℕ) → is_named_lem rs A ≡ true → (w : List ℕ) → Terminals w →
         Derives P (A ∷ []) w ↔ Derives Q (A ∷ []) w

@@ -1,7 +1,7 @@
 -- The computed verdicts are what is meant, of a grammar and of a call that is not refused. Assumes nothing.
 use Rattle.grammar.proofs.Basics.{◌≡◌, ap, subst, ◌↔◌, Iff·trans, true, false, not, List, ℕ, arith, not-true}
 use Rattle.grammar.proofs.Basics.{not-false, cases, refuted, not_true_false}
-use Rattle.grammar.specs.Rule.{Rule, Among, empty}
+use Rattle.grammar.specs.Rule.{Rule, Among}
 use Rattle.grammar.specs.Useful.{Productive}
 use Rattle.grammar.specs.Growing.{Growing}
 use Rattle.grammar.specs.Language.{Infinite, Finite}
