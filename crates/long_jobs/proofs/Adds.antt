@@ -44,4 +44,4 @@ module _ {R : JobRecord → Type 0} where
         let k = c.taken in
         let r = pair_record A X (fresh k) in
         adds_more r (s.of_two A X (fresh k) a x (s.fresh_symbol k))
-        (split_adds (take_one (write r c)) (s.fresh_head k) (cons y (cons z zs)))
+        (split_adds {A = fresh k} (take_one (write r c)) (s.fresh_head k) (cons y (cons z zs)))

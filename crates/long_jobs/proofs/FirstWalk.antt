@@ -20,7 +20,7 @@ faultless seen r e =
     (λ t. absurd (eqb-false (form_fault_lem r) 0 t (rw t at e)))
 
 -- so no member is refused by itself
-each_formed : (seen : List (List ℕ)) {rs : List (List ℕ)} {r : List ℕ} → (first_fault long_format seen rs).number ≡ 0
+each_formed : {r : List ℕ} (seen : List (List ℕ)) {rs : List (List ℕ)} → (first_fault long_format seen rs).number ≡ 0
     → List·Memᴰ r rs
     → form_fault_lem r ≡ 0
 each_formed seen e (List·Memᴰ·head q) = rw q (faultless seen _ (walks_on long_format seen _ _ e).0).0

@@ -17,13 +17,14 @@ inserted r (y ∷ ys) m =
     (λ t. rw t (⊎_elim (λ e. List·Memᴰ·tail (inserted r ys (inl e)))
     (λ n. ⊎_elim List·Memᴰ·head (λ k. List·Memᴰ·tail (inserted r ys (inr k))) (List·Memᴰ·cases-cons n)) m))
 
-member_sorted : {ws : List JobRecord} {r : JobRecord} → List·Memᴰ r ws → is_rule_lem r ≡ true →
+member_sorted : {r : JobRecord} {ws : List JobRecord} → List·Memᴰ r ws → is_rule_lem r ≡ true →
     List·Memᴰ r (sorted_rules_lem ws)
 unfolding sorted_rules_lem
 member_sorted {ws = x ∷ ws} (List·Memᴰ·head e) t = rw (← e, t) (inserted _ (sorted_rules_lem ws) (inl refl))
 member_sorted {ws = x ∷ ws} (List·Memᴰ·tail m) t =
     cases (is_rule_lem x) (λ u. rw u (inserted x (sorted_rules_lem ws) (inr (member_sorted m t))))
     (λ u. rw u (member_sorted m t))
+member_sorted {r = r} {ws = []} x5 t = elim x5 [ ]
 
 module _ (ws : List JobRecord) where
   pub record_production : (r : JobRecord) → List·Memᴰ r ws → is_rule_lem r ≡ true →

@@ -9,7 +9,7 @@ use Rattle.long_jobs.specs.Dialect.{is_long_lem, head_of, body_of, short_of}
 use Rattle.long_jobs.proofs.RuleKinds.{rule_kinds, for_rule}
 use Rattle.long_jobs.specs.Fresh.{short_names_lem, holds, names, is_named_lem}
 
-pub holds_member : {xs : List ℕ} {v : ℕ} → List·Memᴰ v xs → holds xs v ≡ true
+pub holds_member : {v : ℕ} {xs : List ℕ} → List·Memᴰ v xs → holds xs v ≡ true
 unfolding holds
 holds_member (List·Memᴰ·head e) = rw (eq-eqb _ _ (sym e))
 holds_member (List·Memᴰ·tail m) = rw (holds_member m, or-true)
