@@ -6,7 +6,7 @@ use Rattle.abnf.specs.declared.Character.{Character}
 use Rattle.abnf.specs.declared.PieceKind.{PieceKind}
 use Rattle.abnf.specs.declared.Stage.{Stage}
 use Rattle.abnf.specs.declared.Stage.TheVariants.{LineStart, Named, NamedSpaced, Open, OpenSpaced, Filled}
-use Rattle.abnf.specs.declared.Stage.TheVariants.{FilledSpaced, Noted}
+use Rattle.abnf.specs.declared.Stage.TheVariants.{FilledSpaced, Noted, Outside}
 use Rattle.abnf.specs.Bytes.{is_wsp_lem}
 use Rattle.abnf.specs.Text.{Many, Element, characters, Line, no_more, Sign, defined_as, Literal, ElementText}
 use Rattle.abnf.specs.Text.{by_name, by_literal, Comment, at_once, after_comment, Rulelist}
@@ -101,44 +101,44 @@ step FilledSpaced (literal_text l) r = element_filled (literal_of l) r
 step FilledSpaced (comment_text c) (noted_rest r) = end_spaced (comment_tail c r)
 step FilledSpaced end_text (start_rest r) = end_spaced (tail at_once r)
 step Noted end_text (start_rest r) = noted_rest r
-step {e = e} {b = b} {s = s} {said = said} LineStart (mark_text {m = m} g) r = elim r [ ]
-step {e = e} {s = s} {said = said} LineStart slash_text r = elim r [ ]
-step {e = e} {b = b} {s = s} {said = said} LineStart (blank_text o) r = elim r [ ]
-step {e = e} {b = b} {s = s} {said = said} LineStart (literal_text {cs = cs} l) r = elim r [ ]
-step {e = e} {b = b} {s = s} {said = said} LineStart (comment_text c) r = elim r [ ]
-step {e = e} {s = s} {said = said} LineStart end_text r = elim r [ ]
-step {e = e} {b = b} {s = s} {said = said} Named (name_text n) r = elim r [ ]
-step {e = e} {s = s} {said = said} Named slash_text r = elim r [ ]
-step {e = e} {b = b} {s = s} {said = said} Named (literal_text {cs = cs} l) r = elim r [ ]
-step {e = e} {b = b} {s = s} {said = said} Named (comment_text c) r = elim r [ ]
-step {e = e} {s = s} {said = said} Named end_text r = elim r [ ]
-step {e = e} {b = b} {s = s} {said = said} NamedSpaced (name_text n) r = elim r [ ]
-step {e = e} {s = s} {said = said} NamedSpaced slash_text r = elim r [ ]
-step {e = e} {b = b} {s = s} {said = said} NamedSpaced (blank_text o) r = elim r [ ]
-step {e = e} {b = b} {s = s} {said = said} NamedSpaced (literal_text {cs = cs} l) r = elim r [ ]
-step {e = e} {b = b} {s = s} {said = said} NamedSpaced (comment_text c) r = elim r [ ]
-step {e = e} {s = s} {said = said} NamedSpaced end_text r = elim r [ ]
-step {e = e} {b = b} {s = s} {said = said} Open (mark_text {m = m} g) r = elim r [ ]
-step {e = e} {s = s} {said = said} Open slash_text r = elim r [ ]
-step {e = e} {b = b} {s = s} {said = said} Open (comment_text c) r = elim r [ ]
-step {e = e} {s = s} {said = said} Open end_text r = elim r [ ]
-step {e = e} {b = b} {s = s} {said = said} OpenSpaced (mark_text {m = m} g) r = elim r [ ]
-step {e = e} {s = s} {said = said} OpenSpaced slash_text r = elim r [ ]
-step {e = e} {b = b} {s = s} {said = said} OpenSpaced (blank_text o) r = elim r [ ]
-step {e = e} {b = b} {s = s} {said = said} OpenSpaced (comment_text c) r = elim r [ ]
-step {e = e} {s = s} {said = said} OpenSpaced end_text r = elim r [ ]
-step {e = e} {b = b} {s = s} {said = said} Filled (name_text n) r = elim r [ ]
-step {e = e} {b = b} {s = s} {said = said} Filled (mark_text {m = m} g) r = elim r [ ]
-step {e = e} {b = b} {s = s} {said = said} Filled (literal_text {cs = cs} l) r = elim r [ ]
-step {e = e} {b = b} {s = s} {said = said} FilledSpaced (mark_text {m = m} g) r = elim r [ ]
-step {e = e} {b = b} {s = s} {said = said} FilledSpaced (blank_text o) r = elim r [ ]
-step {e = e} {b = b} {s = s} {said = said} Noted (name_text n) r = elim r [ ]
-step {e = e} {b = b} {s = s} {said = said} Noted (mark_text {m = m} g) r = elim r [ ]
-step {e = e} {s = s} {said = said} Noted slash_text r = elim r [ ]
-step {e = e} {b = b} {s = s} {said = said} Noted (blank_text o) r = elim r [ ]
-step {e = e} {b = b} {s = s} {said = said} Noted (literal_text {cs = cs} l) r = elim r [ ]
-step {e = e} {b = b} {s = s} {said = said} Noted (comment_text c) r = elim r [ ]
-step {e = e} {k = k} {b = b} {s = s} {said = said} Rattle.abnf.specs.declared.Stage.TheVariants.Outside _ r = elim r [ ]
+step LineStart (mark_text g) r = elim r [ ]
+step LineStart slash_text r = elim r [ ]
+step LineStart (blank_text o) r = elim r [ ]
+step LineStart (literal_text l) r = elim r [ ]
+step LineStart (comment_text c) r = elim r [ ]
+step LineStart end_text r = elim r [ ]
+step Named (name_text n) r = elim r [ ]
+step Named slash_text r = elim r [ ]
+step Named (literal_text l) r = elim r [ ]
+step Named (comment_text c) r = elim r [ ]
+step Named end_text r = elim r [ ]
+step NamedSpaced (name_text n) r = elim r [ ]
+step NamedSpaced slash_text r = elim r [ ]
+step NamedSpaced (blank_text o) r = elim r [ ]
+step NamedSpaced (literal_text l) r = elim r [ ]
+step NamedSpaced (comment_text c) r = elim r [ ]
+step NamedSpaced end_text r = elim r [ ]
+step Open (mark_text g) r = elim r [ ]
+step Open slash_text r = elim r [ ]
+step Open (comment_text c) r = elim r [ ]
+step Open end_text r = elim r [ ]
+step OpenSpaced (mark_text g) r = elim r [ ]
+step OpenSpaced slash_text r = elim r [ ]
+step OpenSpaced (blank_text o) r = elim r [ ]
+step OpenSpaced (comment_text c) r = elim r [ ]
+step OpenSpaced end_text r = elim r [ ]
+step Filled (name_text n) r = elim r [ ]
+step Filled (mark_text g) r = elim r [ ]
+step Filled (literal_text l) r = elim r [ ]
+step FilledSpaced (mark_text g) r = elim r [ ]
+step FilledSpaced (blank_text o) r = elim r [ ]
+step Noted (name_text n) r = elim r [ ]
+step Noted (mark_text g) r = elim r [ ]
+step Noted slash_text r = elim r [ ]
+step Noted (blank_text o) r = elim r [ ]
+step Noted (literal_text l) r = elim r [ ]
+step Noted (comment_text c) r = elim r [ ]
+step Outside _ r = elim r [ ]
 
 -- the pieces of a walk to the start of a line are such a rest
 walks_rest : (e : Edition) (σ τ : Stage) (ps : List Piece) → Walks e σ ps τ → Rest e τ [] nothing_said_lem →
@@ -151,12 +151,12 @@ walks_rest e σ τ ps (next_piece {k = k} {ps = qs} t o w) r = step σ t (walks_
 rules_from_lem : {e : Edition} {k : PieceKind} {b s : List ℕ} {said : Said} →
     PieceText e k b → Rest e (follows LineStart k) s said → Rulelist e (b ++ s) (says LineStart k b said).lines
 rules_from_lem (name_text n) (named_rest d r l) = rule_before n d r l
-rules_from_lem {e = e} {b = b} {s = s} {said = said} (mark_text {m = m} _) x9 = elim x9 [ ]
-rules_from_lem {e = e} {s = s} {said = said} slash_text x6 = elim x6 [ ]
-rules_from_lem {e = e} {b = b} {s = s} {said = said} (blank_text _) x11 = elim x11 [ ]
-rules_from_lem {e = e} {b = b} {s = s} {said = said} (literal_text {cs = cs} _) x12 = elim x12 [ ]
-rules_from_lem {e = e} {b = b} {s = s} {said = said} (comment_text _) x13 = elim x13 [ ]
-rules_from_lem {e = e} {s = s} {said = said} end_text x10 = elim x10 [ ]
+rules_from_lem (mark_text _) x9 = elim x9 [ ]
+rules_from_lem slash_text x6 = elim x6 [ ]
+rules_from_lem (blank_text _) x11 = elim x11 [ ]
+rules_from_lem (literal_text _) x12 = elim x12 [ ]
+rules_from_lem (comment_text _) x13 = elim x13 [ ]
+rules_from_lem end_text x10 = elim x10 [ ]
 
 -- pieces that walk from the start of a line to the start of a line are rules, and say them
 pub walks_sound : (e : Edition) (p : Piece) (ps : List Piece) → Walks e LineStart (p ∷ ps) LineStart →

@@ -99,7 +99,7 @@ module _ (names : List (List ℕ)) where
       (List·Memᴰ·append-cases (map (body_of names (number_of names l.name)) l.alternatives) m)
 
   -- and each alternative its body
-  pub alternative_body : {lines : List Line} {l : Line} {xs : List Element} → List·Memᴰ l lines →
+  pub alternative_body : {l : Line} {lines : List Line} {xs : List Element} → List·Memᴰ l lines →
       List·Memᴰ xs l.alternatives → List·Memᴰ (body_of names (number_of names l.name) xs) (bodies_from names lines)
   unfolding bodies_from
   alternative_body {l} {xs} (List·Memᴰ·head {x = k} {xs = ls} e) m =

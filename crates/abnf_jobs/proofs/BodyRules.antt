@@ -1,6 +1,6 @@
 -- Each body has its rules among those of a text, behind the roles that the bodies before it take, and each letter that
 -- is met has one for each case. Assumes nothing.
-use Rattle.grammar.proofs.Basics.{◌≡◌, refl, ⊎_elim, ◌⊎◌, true, Bool, List, ◌∷◌, List·Memᴰ, List·Memᴰ·head}
+use Rattle.grammar.proofs.Basics.{◌≡◌, refl, ⊎_elim, ◌⊎◌, true, Bool, List, [], ◌∷◌, List·Memᴰ, List·Memᴰ·head}
 use Rattle.grammar.proofs.Basics.{List·Memᴰ·tail, Memᴰ·append-left, Memᴰ·append-right, cases, ℕ, zero, suc, ◌+◌, ◌-◌}
 use Rattle.grammar.proofs.Basics.{◌<◌, ◌≤◌, arith, eqb, eqb-true, eqb-false}
 use Rattle.job.specs.declared.JobRecord.{JobRecord}
@@ -35,6 +35,7 @@ module _ (used : ℕ → Bool) where
         begin = p.begin;
         within = λ r k. Memᴰ·append-right (body_rules used (with_letters roles c.items) c) (p.within r k);
       }
+  placed roles [] b x' = elim x' [ ]
 
   module _ (roles : List Role) (l c : ℕ) (met : is_met roles l ≡ true) (case-of : (c ≡ l - 32) ⊎ (c ≡ l)) where
     abbrev rule : JobRecord

@@ -3,7 +3,7 @@
 use Rattle.grammar.proofs.Basics.{or_assoc, or-true, ◌||◌, ◌≡◌, refl, ◌∙◌, sym, ap, subst, cases, true, true_and_false}
 use Rattle.grammar.proofs.Basics.{and_both, List, [], ◌∷◌, ◌++◌, List·Memᴰ, List·Memᴰ·head, List·Memᴰ·tail}
 use Rattle.grammar.proofs.Basics.{List·Memᴰ·not-nil, Memᴰ·append-left, Memᴰ·append-right, ℕ, ◌<◌, ◌+◌, arith, length}
-use Rattle.grammar.proofs.Basics.{eq-eqb, false≢true}
+use Rattle.grammar.proofs.Basics.{cond, eq-eqb, false≢true}
 use Rattle.abnf.specs.declared.Edition.{Edition}
 use Rattle.abnf.specs.declared.Mark.{Mark}
 use Rattle.abnf.specs.declared.Mark.TheVariants.{Defines, Adds}
@@ -76,7 +76,8 @@ line_among before (k ∷ ks) l (List·Memᴰ·head e) =
     cases (is_among_lem before l.name)
     (λ t. rw (← e, t) (among_kept before ks l.name t))
     (λ t. rw (← e, t) (among_kept (before ++ (l.name ∷ [])) ks l.name (among_last before l.name)))
-line_among before (k ∷ ks) l (List·Memᴰ·tail m) = line_among _ ks l m
+line_among before (k ∷ ks) l (List·Memᴰ·tail m) =
+    line_among (cond (is_among_lem before k.name) before (before ++ (k.name ∷ []))) ks l m
 
 pub line_numbered : (lines : List Line) (l : Line) → List·Memᴰ l lines →
     number_of (names_of lines) l.name < length (names_of lines)

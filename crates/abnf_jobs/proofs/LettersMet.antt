@@ -55,6 +55,7 @@ unfolding with_letters
 letters_met rs (x ∷ xs) l (List·Memᴰ·head e) =
     met_begun l (letters_begin (with_item rs x) xs) (rw (← e) (letter_met rs l))
 letters_met rs (x ∷ xs) l (List·Memᴰ·tail m) = letters_met (with_item rs x) xs l m
+letters_met rs [] l x' = elim x' [ ]
 
 -- a letter that is met is met before, or is one of the body's
 module _ (l : ℕ) where

@@ -21,7 +21,7 @@ use Rattle.abnf_jobs.proofs.ByteCharacters.{characters_bytes}
 use Rattle.abnf_jobs.proofs.Languages.{lines_same, lines_read}
 
 -- two maps with the same first n characters
-through_alike : {map other v w : List ℕ} (n : ℕ) → ((i : ℕ) → i < n → get_or map i 0 ≡ get_or other i 0) →
+through_alike : {map other : List ℕ} (n : ℕ) {v w : List ℕ} → ((i : ℕ) → i < n → get_or map i 0 ≡ get_or other i 0) →
     Through map n v w → Through other n v w
 through_alike n same no_more = no_more
 through_alike n same (one_more {i} l t) = rw (same i l) (one_more l (through_alike n same t))

@@ -15,7 +15,7 @@ module _ {A : Type 0} (test : A → Bool) where
       (λ t. (x, List·Memᴰ·head refl, t))
       (λ t. let (y, m, u) = some_member xs t in (y, List·Memᴰ·tail m, u)) (or_split (test x) (some_of xs) h)
 
-  pub member_some : {xs : List A} {x : A} → List·Memᴰ x xs → test x ≡ true → some_of xs ≡ true
+  pub member_some : {x : A} {xs : List A} → List·Memᴰ x xs → test x ≡ true → some_of xs ≡ true
   unfolding some_of
   member_some (List·Memᴰ·head {x = y} {xs = ys} e) t = or_left (test y) (some_of ys) (subst (λ z. test z ≡ true) e t)
   member_some (List·Memᴰ·tail {x = y} {xs = ys} m) t = or_right (test y) (some_of ys) (member_some m t)

@@ -138,6 +138,7 @@ bodies_met rs (c ∷ bs) b l (List·Memᴰ·head e) k =
     (begins_trans (begins_with (tails_of c.items)) (bodies_begin (with_body rs c.items) bs))
     (letters_met rs c.items l (subst (λ (y : Body). List·Memᴰ (letter l) y.items) e k))
 bodies_met rs (c ∷ bs) b l (List·Memᴰ·tail m) k = bodies_met (with_body rs c.items) bs b l m k
+bodies_met rs [] b l x'' k = elim x'' [ ]
 
 -- the letter that an item is
 abbrev letter_by : Item → ℕ

@@ -1,6 +1,6 @@
 -- What the copy that clean writes is. Each statement is the contract of a function of src/theorems.rt, so it is
 -- proved. Assumes nothing.
-use Rattle.std.specs.Prelude.{◌≡◌, ◌↔◌, true, false, List, [], ◌∷◌, ℕ, ◌*◌, ◌≤◌, length, take}
+use Rattle.std.specs.Prelude.{◌≡◌, ◌↔◌, false, List, [], ◌∷◌, ℕ, ◌*◌, ◌≤◌, length, take}
 use Rattle.grammar.specs.Rule.{Among}
 use Rattle.grammar.specs.Language.{Language}
 use Rattle.job.specs.Format.{records_of, byte_s}
