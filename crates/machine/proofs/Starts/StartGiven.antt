@@ -107,6 +107,6 @@ module _ (m : Lent) (long : table_size ≤ length m.table) (long_reasons : reaso
   giving_all_written given loop [] fits = λ i. with_loops (λ q X s. sym (or-false (given q X s)) i) loop m
   giving_all_written given loop (r ∷ rs) fits =
       ap (giving_all rs) (giving_written given loop r (fits r (List·Memᴰ·head refl)))
-      ∙ giving_all_written _ loop rs (λ x n. fits x (List·Memᴰ·tail n))
+      ∙ giving_all_written (also r given) loop rs (λ x n. fits x (List·Memᴰ·tail n))
       ∙ (λ i. with_loops
       (λ q X s. or_assoc (given q X s) (same r (transition_record q X s)) (has rs (transition_record q X s)) i) loop m)
