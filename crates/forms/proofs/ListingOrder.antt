@@ -1,14 +1,14 @@
 -- Visits list places in turn: what carries the mark is what is listed, so a visit does nothing or lists its place after
 -- its premises. By induction on the fuel; what follows of the order, by induction on the listing. Assumes nothing.
-use Rattle.grammar.proofs.Basics.{◌≡◌, refl, ◌∙◌, ⊎_elim, inl, inr, ◌⊎◌, true, false, List, ◌∷◌, [], List·Memᴰ, ◌++◌}
+use Rattle.grammar.proofs.Basics.{◌≡◌, refl, ◌∙◌, ⊎_elim, inl, inr, ◌⊎◌, false, List, ◌∷◌, [], List·Memᴰ, ◌++◌}
 use Rattle.grammar.proofs.Basics.{List·Memᴰ·head, List·Memᴰ·tail, List·Memᴰ·eq-of-singleton, List·Memᴰ·append-cases}
-use Rattle.grammar.proofs.Basics.{Memᴰ·append-left, Memᴰ·append-right, ℕ, ◌<◌, suc, zero, arith, eq-eqb, length, get_or}
+use Rattle.grammar.proofs.Basics.{Memᴰ·append-left, Memᴰ·append-right, ℕ, ◌<◌, suc, zero, arith, eq-eqb, length}
 use Rattle.grammar.proofs.Basics.{length-append, cases, true_and_false}
 use lib.ListN.{get_or-append}
 use lib.Seq.{get_or-append_seam}
 use Rattle.grammar.specs.Rule.{Rule}
 use Rattle.machine.specs.Table.{table_size, turn_at_lem}
-use Rattle.forms.specs.Listing.{Listed, listing, in_turn, premises, visit, is_listed, depth_bound}
+use Rattle.forms.specs.Listing.{Listed, in_turn, premises, visit, is_listed, depth_bound}
 use Rattle.forms.specs.Grounded.{DonePlace, Grounded}
 use Rattle.forms.specs.Inside.ListingParts.{fresh}
 use Rattle.forms.specs.Theorems.ListingOrder.{ListsInTurn, RestsOn, StandsBefore, FirstPremiseFirst}
