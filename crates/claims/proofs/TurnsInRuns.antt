@@ -107,7 +107,7 @@ module _ (job : List ℕ) (ok : Accepted false job) where
       by_check k (Leaves k known) job m c (given_leaves k known m c fits) (refused_leaves k known m c fits) in
       let now = (outcome_of k job m c).lent in
       more (λ s. turns_read k J.rules now (premises_earlier J range (read k now) (after s).fit))
-      (turns_right k _ now cs after)
+      (turns_right k (since_start known (outcome_of k job m c).answer) now cs after)
 
 pub turns_in_runs_lem : TurnsInRuns
 unfolding TurnsInRuns
