@@ -16,7 +16,7 @@ use Rattle.forms.specs.Operations.{ask_check_by, ask_by, ask_bits_check_by, ask_
 use Rattle.verdicts.specs.Operation.{verdicts_check_by, verdicts_by}
 use Rattle.claims.specs.Call.{Kind, bytes, bits, start_on, advance_on, ask_on, Call, start, advance, ask, explain}
 use Rattle.claims.specs.Call.{verdicts, count, outcome_by, run_by}
-use Rattle.claims.specs.WiderClasses.{ByCanonicalJob, ByWiderTable, WiderClasses}
+use Rattle.claims.specs.WiderClasses.{ByWiderTable, WiderClasses}
 
 module _ (checks others : Checks) (a b : List ℕ) (same : (needed : Bool) → checks needed a ≡ others needed b)
     (jobs : job_of a ≡ job_of b) where
