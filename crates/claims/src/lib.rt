@@ -3,15 +3,15 @@
 // Whatever its input, an operation gives just what its definition says, the answer and every byte of what is lent
 // (crates operations and ropeclover; none asks for anything):
 //
-//     start, advance            startOf, advance_of              machine/specs/Operations
-//     start, advance on bits    start_bits_of, advance_bits_of      bit_machine/specs/Operations
+//     start, advance            start_of, advance_of              machine/specs/Operations
+//     start, advance on bits    start_bits_of, advance_bits_of    bit_machine/specs/Operations
 //     done count                done_count_of                     bit_machine/specs/Operations
-//     ask, on bytes and bits    ask_of, ask_bits_of                forms/specs/Operations
-//     explain                   explain_of                       forms/specs/Operations
-//     verdicts                  verdicts_of                      verdicts/specs/Operation
-//     showing                   shown_of                         job/specs/Show
-//     binarize                  binarize_of                      long_jobs/specs/Operation
-//     clean                     clean_of                         copies/specs/Operation
+//     ask, on bytes and bits    ask_of, ask_bits_of               forms/specs/Operations
+//     explain                   explain_of                        forms/specs/Operations
+//     verdicts                  verdicts_of                       verdicts/specs/Operation
+//     showing                   shown_of                          job/specs/Show
+//     binarize                  binarize_of                       long_jobs/specs/Operation
+//     clean                     clean_of                          copies/specs/Operation
 //
 // What holds of single operations is carried beside the definitions, in theorems.rt of these crates: of the checks and
 // ranks in job, of steps, counts, reasons and turns in machine, of bits in bit_machine, of acceptance and listings in

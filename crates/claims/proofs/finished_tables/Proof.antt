@@ -1,5 +1,5 @@
--- `claims::finished_tables` meets its contract, which is of Type 1: advances after a start are steps from it, and steps
--- from a start finish with the smallest set. Assumes nothing.
+-- `claims::finished_tables` meets its contract, which is of Type 1: advances after a start are steps from it, and
+-- steps from a start finish with the smallest set. Assumes nothing.
 use Rattle.claims.specs.FinishedTables.{FinishedTables}
 use Rattle.grammar.proofs.Carried.{Nothing, NothingAfter, carried}
 use contract.Running.{tables_of}
