@@ -1,12 +1,10 @@
 -- `outputs::shown_records`: the least of three numbers, two by two. Assumes nothing.
-use borrow.Author.Rules.{rules}
 use mathlib.Core.Path.{◌≡◌}
 use mathlib.Core.List.{List}
 use Prim.Native.Nat.{ℕ, ◌/◌, min}
 use lib.ListN.{length}
 use Rattle.printing.specs.Outputs.{most_records, shown_records_lem}
-use Rattle.printing.proofs.outputs.shown_records.Statement.{statement}
-use Rattle.printing.proofs.outputs.shown_records.Tie as tie
+use Rattle.printing.proofs.outputs.shown_records.Goals as goal
 
 shown : (records : ℕ) (listing : List ℕ) {few shown : ℕ}
     → few ≡ min records most_records
@@ -15,8 +13,5 @@ shown : (records : ℕ) (listing : List ℕ) {few shown : ℕ}
 unfolding shown_records_lem
 shown records listing e f = rw e at f
 
-returns : tie.Need-returns
-returns c = shown _ _ c.before.least.ensures c.least2.ensures
-
-pub shown_records_spec : {M : Type 1} → statement M
-shown_records_spec = tie.close (tie.spec (λ c κs. search rules) (λ c κs. search rules) returns)
+pub returns : goal.returns
+returns c = record { count = shown _ _ c.least.ensures.least c.least-2.ensures.least }
