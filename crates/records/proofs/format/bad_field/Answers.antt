@@ -1,9 +1,8 @@
 -- `format::bad_field`: the three tests are the definition's, at the row that the kind byte has. Assumes nothing.
-use Rattle.grammar.proofs.Basics.{◌≡◌, true, false, Bool, not, ℕ, needs}
+use Rattle.grammar.proofs.Basics.{◌≡◌, true, false, Bool, not, ℕ}
 use Rattle.job.specs.declared.JobRecord.{JobRecord}
 use Rattle.job.specs.Format.{field_classes, row_of, class_at, in_class_lem, bad_field_lem}
-use Rattle.records.proofs.format.bad_field.Statement.{statement}
-use Rattle.records.proofs.format.bad_field.Tie as tie
+use Rattle.records.proofs.format.bad_field.Goals as goal
 
 module _ (r : JobRecord) (row : ℕ) (is : row ≡ row_of r.kind) (f : Bool)
     (first : f ≡ in_class_lem (class_at field_classes row 0) r.first) where
@@ -27,6 +26,14 @@ module _ (r : JobRecord) (row : ℕ) (is : row ≡ row_of r.kind) (f : Bool)
 
 ruleset ways = (first_bad, second_bad, third_bad, none_bad)
 
-pub bad_field_spec : {M : Type 1} → statement M
-bad_field_spec = tie.close (tie.spec (λ c κs. search needs) (λ c κs. search needs) (λ c. search ways)
-    (λ c κs. search needs) (λ c. search ways) (λ c κs. search needs) (λ c. search ways) (λ c. search ways))
+pub returns-then-not-field_fits : goal.returns-then-not-field_fits
+returns-then-not-field_fits c = record { field = search ways }
+
+pub returns-then-not-field_fits-2 : goal.returns-then-not-field_fits-2
+returns-then-not-field_fits-2 c = record { field = search ways }
+
+pub returns-then-not-field_fits-3 : goal.returns-then-not-field_fits-3
+returns-then-not-field_fits-3 c = record { field = search ways }
+
+pub returns : goal.returns
+returns c = record { field = search ways }

@@ -1,8 +1,7 @@
 -- `write::room_check`: the test is the definition's. Assumes nothing.
-use Rattle.grammar.proofs.Basics.{◌≡◌, ℕ, ◌<◌, ◌≤◌, ◌*◌, lt-ltb, le-ltb, needs}
+use Rattle.grammar.proofs.Basics.{◌≡◌, ℕ, ◌<◌, ◌≤◌, ◌*◌, lt-ltb, le-ltb}
 use Rattle.job.specs.Check.{refused, accepted, room_check}
-use Rattle.records.proofs.write.room_check.Statement.{statement}
-use Rattle.records.proofs.write.room_check.Tie as tie
+use Rattle.records.proofs.write.room_check.Goals as goal
 
 module _ (n room : ℕ) where
   no_room : room < 4 * n → refused 13 n ≡ room_check n room
@@ -15,5 +14,8 @@ module _ (n room : ℕ) where
 
 ruleset ways = (no_room, all_fit)
 
-pub room_check_spec : {M : Type 1} → statement M
-room_check_spec = tie.close (tie.spec (λ c. search needs) (λ c. search ways) (λ c. search ways))
+pub returns-then-room-records : goal.returns-then-room-records
+returns-then-room-records c = record { checked = search ways }
+
+pub returns : goal.returns
+returns c = record { checked = search ways }

@@ -1,11 +1,10 @@
 -- `format::alike` compares byte by byte what the definition compares in one test. Assumes nothing.
 use Rattle.grammar.proofs.Basics.{◌≡◌, false, and-true, and-false, List, ℕ, ◌≤◌, ◌+◌, ◌*◌, eqb, length, get_or, eq-eqb}
-use Rattle.grammar.proofs.Basics.{ne_eqb, needs}
+use Rattle.grammar.proofs.Basics.{ne_eqb}
 use Rattle.job.specs.declared.JobRecord.{JobRecord}
 use Rattle.job.specs.Format.{records_of, same, no_record}
 use Rattle.job.proofs.Records.{record_of_bytes}
-use Rattle.records.proofs.format.alike.Statement.{statement}
-use Rattle.records.proofs.format.alike.Tie as tie
+use Rattle.records.proofs.format.alike.Goals as goal
 
 module _ (b : List ℕ) (i : ℕ) (r : JobRecord) (fits : 4 * i + 4 ≤ length b) where
   second_differs : (get_or b (4 * i + 2) 0 ≡ r.second → ⊥) → false ≡ same (get_or (records_of b) i no_record) r
@@ -23,7 +22,14 @@ module _ (b : List ℕ) (i : ℕ) (r : JobRecord) (fits : 4 * i + 4 ≤ length b
 
 ruleset ways = (second_differs, third_differs, first_differs, by_kind)
 
-pub alike_spec : {M : Type 1} → statement M
-alike_spec = tie.close (tie.spec (λ c. search needs) (λ c. search needs) (λ c. search needs) (λ c. search ways)
-    (λ c. search needs) (λ c. search needs) (λ c. search ways) (λ c. search needs) (λ c. search needs)
-    (λ c. search ways) (λ c. search needs) (λ c. search ways))
+pub returns-then-job-at : goal.returns-then-job-at
+returns-then-job-at c = record { says = search ways }
+
+pub returns-then-job-at-2 : goal.returns-then-job-at-2
+returns-then-job-at-2 c = record { says = search ways }
+
+pub returns-then-job-at-3 : goal.returns-then-job-at-3
+returns-then-job-at-3 c = record { says = search ways }
+
+pub returns : goal.returns
+returns c = record { says = search ways }
