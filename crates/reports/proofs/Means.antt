@@ -1,7 +1,6 @@
 -- What the values of a report mean: those of a run to the end from a start are those of the smallest set, and the
 -- verdicts are meant. Assumes nothing.
-use Rattle.grammar.proofs.Basics.{◌≡◌, refl, ◌∙◌, sym, ap, subst, true, false, Bool, List, ◌∷◌, [], ℕ, zero, suc, arith}
-use Rattle.job.specs.Accepted.{Accepted}
+use Rattle.grammar.proofs.Basics.{◌≡◌, refl, ◌∙◌, sym, ap, subst, true, List, ◌∷◌, [], ℕ, zero, suc, arith}
 use Rattle.job.specs.Job.{Job, job_of}
 use Rattle.job.specs.Theorems.InRange.{InRange}
 use Rattle.job.proofs.AcceptedFacts.{in_range, initial_below, start_below}

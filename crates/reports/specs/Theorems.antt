@@ -1,5 +1,5 @@
 -- What is proved of a report that is not refused. Assumes nothing.
-use Rattle.std.specs.Prelude.{◌≡◌, ◌↔◌, ℕ, Bool, true, false, List, [], ◌∷◌, ◌++◌}
+use Rattle.std.specs.Prelude.{◌≡◌, ◌↔◌, ℕ, Bool, true, false, List, [], ◌∷◌}
 use Rattle.grammar.specs.Rule.{Among}
 use Rattle.grammar.specs.Counting.{meetings}
 use Rattle.grammar.specs.Useful.{Productive}
