@@ -1,10 +1,9 @@
 -- `check::is_unknown`: the tests are the definition's. Assumes nothing.
-use Rattle.grammar.proofs.Basics.{◌≡◌, true, false, Bool, List, ℕ, eqb, needs}
+use Rattle.grammar.proofs.Basics.{◌≡◌, true, false, Bool, List, ℕ, eqb}
 use Rattle.job.specs.Format.{row_of}
 use Rattle.long_jobs.specs.Dialect.{kind_of, is_long_lem}
 use Rattle.long_jobs.specs.Check.{is_unknown_lem}
-use Rattle.long_records.proofs.check.is_unknown.Statement.{statement}
-use Rattle.long_records.proofs.check.is_unknown.Tie as tie
+use Rattle.long_records.proofs.check.is_unknown.Goals as goal
 
 module _ (bytes : List ℕ) (long : Bool) (is : long ≡ is_long_lem bytes) where
   known_as_long : long ≡ true → false ≡ is_unknown_lem bytes
@@ -15,6 +14,8 @@ module _ (bytes : List ℕ) (long : Bool) (is : long ≡ is_long_lem bytes) wher
 
 ruleset ways = (known_as_long, by_its_row)
 
-pub is_unknown_spec : {M : Type 1} → statement M
-is_unknown_spec = tie.close (tie.spec (λ c κs. search needs) (λ c. search ways) (λ c. search needs)
-    (λ c κs. search needs) (λ c. search ways))
+pub returns-then-is_long : goal.returns-then-is_long
+returns-then-is_long c = record { says = search ways }
+
+pub returns : goal.returns
+returns c = record { says = search ways }

@@ -1,8 +1,7 @@
 -- `check::form_fault`: the tests are the definition's. Assumes nothing.
-use Rattle.grammar.proofs.Basics.{◌≡◌, ◌∙◌, sym, true, false, Bool, List, ℕ, needs}
+use Rattle.grammar.proofs.Basics.{◌≡◌, ◌∙◌, sym, true, false, Bool, List, ℕ, rules}
 use Rattle.long_jobs.specs.Check.{is_unknown_lem, is_misfit_lem, is_ill_padded_lem, form_fault_lem}
-use Rattle.long_records.proofs.check.form_fault.Statement.{statement}
-use Rattle.long_records.proofs.check.form_fault.Tie as tie
+use Rattle.long_records.proofs.check.form_fault.Goals as goal
 
 module _ (bytes : List ℕ) (u : Bool) (unknown : u ≡ is_unknown_lem bytes) where
   unknown_kind : u ≡ true → 3 ≡ form_fault_lem bytes
@@ -27,8 +26,19 @@ module _ (bytes : List ℕ) (u : Bool) (unknown : u ≡ is_unknown_lem bytes) wh
         unfolding form_fault_lem
         no_fault e = rw (← unknown, known, ← misfit, fits, ← padded, e)
 
-ruleset ways = (unknown_kind, of_known_kind, misfits, ill_padded, no_fault, needs)
+ruleset ways = (unknown_kind, of_known_kind, misfits, ill_padded, no_fault, rules)
 
-pub form_fault_spec : {M : Type 1} → statement M
-form_fault_spec = tie.close (tie.spec (λ c κs. search needs) (λ c. search ways) (λ c κs. search ways)
-    (λ c. search ways) (λ c κs. search needs) (λ c. search ways) (λ c. search ways))
+pub returns-then-is_unknown : goal.returns-then-is_unknown
+returns-then-is_unknown c = record { fault = search ways }
+
+pub is_misfit-requires : goal.is_misfit-requires
+is_misfit-requires c = record { known = search ways }
+
+pub returns-then-is_misfit : goal.returns-then-is_misfit
+returns-then-is_misfit c = record { fault = search ways }
+
+pub returns-then-is_ill_padded : goal.returns-then-is_ill_padded
+returns-then-is_ill_padded c = record { fault = search ways }
+
+pub returns : goal.returns
+returns c = record { fault = search ways }

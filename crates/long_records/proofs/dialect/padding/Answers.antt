@@ -1,10 +1,8 @@
 -- `dialect::padding`: the part up to the record's end is all that is left from its start on. Assumes nothing.
 use Rattle.grammar.proofs.Basics.{◌≡◌, true, false, Bool, List, ℕ, ◌+◌, ◌-◌, arith, length, take, drop, length-drop}
-use Rattle.grammar.proofs.Basics.{needs}
 use lib.Seq.{take_all}
 use Rattle.long_jobs.specs.Dialect.{is_long_lem, body_length_lem, padding_of}
-use Rattle.long_records.proofs.dialect.padding.Statement.{statement}
-use Rattle.long_records.proofs.dialect.padding.Tie as tie
+use Rattle.long_records.proofs.dialect.padding.Goals as goal
 
 module _ (bytes : List ℕ) (size : length bytes ≡ 12) where
   to_the_end : (k : ℕ) → take (12 - k) (drop k bytes) ≡ drop k bytes
@@ -18,15 +16,13 @@ module _ (bytes : List ℕ) (size : length bytes ≡ 12) where
     past_the_four : long ≡ false → take (12 - 4) (drop 4 bytes) ≡ padding_of bytes
     past_the_four f = rw (to_the_end 4, ← is, f)
 
-returns : tie.Need-returns
-returns c =
-    let b = c.before in
-    let t = b.before in
-    let s = t.before.before.before in
-    past_the_body s.args.bytes.now s.requires _ t.before.is-long.ensures _ b.body-length.ensures
-    t.if1.true
+pub returns-then-is_long : goal.returns-then-is_long
+returns-then-is_long c =
+    record {
+      padding =
+          past_the_body c.args.bytes.now c.requires.long _ c.is_long.ensures.says _ c.body_length-from.ensures.length
+          c.if-is_long.true;
+    }
 
-pub padding_spec : {M : Type 1} → statement M
-padding_spec = tie.close (tie.spec (λ c κs. search needs) (λ c κs. search needs) (λ c. search needs)
-    (λ c. search needs) (λ c. search needs) (λ c. search needs) returns (λ c. search needs) (λ c. search needs)
-    (λ c. search needs) (λ c. search past_the_four))
+pub returns : goal.returns
+returns c = record { padding = search past_the_four }

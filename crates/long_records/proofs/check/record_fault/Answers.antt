@@ -1,13 +1,12 @@
 -- `check::record_fault`: the tests are the definition's. Assumes nothing.
-use Rattle.grammar.proofs.Basics.{◌≡◌, true, false, Bool, List, ℕ, ne_eqb, needs}
+use Rattle.grammar.proofs.Basics.{◌≡◌, true, false, Bool, List, ℕ, ne_eqb}
 use Rattle.job.specs.declared.JobRecord.{JobRecord}
 use Rattle.job.specs.declared.Tally.{Tally}
 use Rattle.job.specs.Inside.Walk.{is_second_by}
 use Rattle.long_jobs.specs.Dialect.{short_of}
 use Rattle.long_jobs.specs.Check.{form_fault_lem}
 use Rattle.long_jobs.specs.Inside.Parts.{fault_after}
-use Rattle.long_records.proofs.check.record_fault.Statement.{statement}
-use Rattle.long_records.proofs.check.record_fault.Tie as tie
+use Rattle.long_records.proofs.check.record_fault.Goals as goal
 
 module _ (t : Tally) (bytes : List ℕ) (form : ℕ) (formed : form ≡ form_fault_lem bytes) where
   ill_formed : (form ≡ 0 → ⊥) → form ≡ fault_after t bytes
@@ -25,6 +24,11 @@ module _ (t : Tally) (bytes : List ℕ) (form : ℕ) (formed : form ≡ form_fau
 
 ruleset ways = (ill_formed, is_second_lem', no_fault)
 
-pub record_fault_spec : {M : Type 1} → statement M
-record_fault_spec = tie.close (tie.spec (λ c κs. search needs) (λ c. search ways) (λ c κs. search needs)
-    (λ c κs. search needs) (λ c. search ways) (λ c. search ways))
+pub returns-then-form-ne0 : goal.returns-then-form-ne0
+returns-then-form-ne0 c = record { fault = search ways }
+
+pub returns-then-is_second : goal.returns-then-is_second
+returns-then-is_second c = record { fault = search ways }
+
+pub returns : goal.returns
+returns c = record { fault = search ways }

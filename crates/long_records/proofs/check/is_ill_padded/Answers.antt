@@ -1,9 +1,9 @@
 -- `check::is_ill_padded`: the tests are the definition's. Assumes nothing.
-use Rattle.grammar.proofs.Basics.{◌≡◌, ⊎_elim, true, false, Bool, not, List, ℕ, ◌<◌, ◌≤◌, arith, lt-ltb, le-ltb, needs}
+use Rattle.grammar.proofs.Basics.{◌≡◌, true, false, Bool, not, List, ℕ, ◌<◌, ◌≤◌, arith, lt-ltb, le-ltb}
 use Rattle.long_jobs.specs.Dialect.{is_long_lem, length_byte, padding_of, all_below}
 use Rattle.long_jobs.specs.Check.{is_ill_padded_lem}
-use Rattle.long_records.proofs.check.is_ill_padded.Statement.{statement}
-use Rattle.long_records.proofs.check.is_ill_padded.Tie as tie
+use Rattle.long_records.proofs.check.is_ill_padded.Goals.{then-is_long+else-bytes-gt-BODY_SYMBOLS, else-is_long}
+use Rattle.long_records.proofs.check.is_ill_padded.Goals as goal
 
 module _ (bytes : List ℕ) (long : Bool) (is : long ≡ is_long_lem bytes) where
   too_long : long ≡ true → 8 < length_byte bytes → true ≡ is_ill_padded_lem bytes
@@ -21,8 +21,15 @@ module _ (bytes : List ℕ) (long : Bool) (is : long ≡ is_long_lem bytes) wher
 
 ruleset ways = (too_long, of_a_length, not_long)
 
-pub is_ill_padded_spec : {M : Type 1} → statement M
-is_ill_padded_spec = tie.close (tie.spec (λ c κs. search needs) (λ c. search needs)
-    (λ c. omega (arith, c.shared-slice-known2.given 2)) (λ c. search ways) (λ c κs. search needs)
-    (λ c κs. search needs)
-    (λ c. ⊎_elim (λ w. search ways) (λ w. search ways) c.before.before.if1.branch))
+pub overflow_cast-bytes : goal.overflow_cast-bytes
+overflow_cast-bytes c = omega (arith, c.type_inv.bytes 2)
+
+pub returns-then-bytes-gt-BODY_SYMBOLS : goal.returns-then-bytes-gt-BODY_SYMBOLS
+returns-then-bytes-gt-BODY_SYMBOLS c = record { says = search ways }
+
+pub returns : goal.returns
+returns c =
+    elim c.if-is_long.branch [
+      | then-is_long+else-bytes-gt-BODY_SYMBOLS w ↦ record { says = search ways }
+      | else-is_long w ↦ record { says = search ways }
+    ]

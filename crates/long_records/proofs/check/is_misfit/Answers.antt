@@ -1,13 +1,12 @@
 -- `check::is_misfit`: the tests are the definition's; a record that is not long has one of the seven rows. Assumes
 -- nothing.
-use Rattle.grammar.proofs.Basics.{◌≡◌, true, false, Bool, not, List, ℕ, eqb, ltb, not-true, not-false, needs}
+use Rattle.grammar.proofs.Basics.{◌≡◌, true, false, Bool, not, List, ℕ, eqb, ltb, not-true, not-false}
 use Rattle.job.specs.declared.JobRecord.{JobRecord}
 use Rattle.job.specs.Format.{field_classes, bad_field_lem}
 use Rattle.long_jobs.specs.Dialect.{is_long_lem, head_of, body_of, short_of, all_below}
 use Rattle.long_jobs.specs.Check.{is_misfit_lem}
 use Rattle.long_jobs.proofs.Formed.{known_kind}
-use Rattle.long_records.proofs.check.is_misfit.Statement.{statement}
-use Rattle.long_records.proofs.check.is_misfit.Tie as tie
+use Rattle.long_records.proofs.check.is_misfit.Goals as goal
 
 module _ (bytes : List ℕ) (long : Bool) (is : long ≡ is_long_lem bytes) where
   module _ (e : long ≡ true) (variable : Bool) (head : variable ≡ ltb (head_of bytes) 32) where
@@ -27,7 +26,14 @@ module _ (bytes : List ℕ) (long : Bool) (is : long ≡ is_long_lem bytes) wher
 
 ruleset ways = (head_misfit, by_its_body, known_kind, by_its_fields)
 
-pub is_misfit_spec : {M : Type 1} → statement M
-is_misfit_spec = tie.close (tie.spec (λ c κs. search needs) (λ c. search needs) (λ c κs. search needs)
-    (λ c. search ways) (λ c κs. search needs) (λ c κs. search needs) (λ c. search ways) (λ c κs. search needs)
-    (λ c κs. search ways) (λ c. search ways))
+pub returns-then-not-is_variable : goal.returns-then-not-is_variable
+returns-then-not-is_variable c = record { says = search ways }
+
+pub returns-then-is_long : goal.returns-then-is_long
+returns-then-is_long c = record { says = search ways }
+
+pub bad_field-requires : goal.bad_field-requires
+bad_field-requires c = record { known = search ways }
+
+pub returns : goal.returns
+returns c = record { says = search ways }

@@ -1,12 +1,11 @@
 -- `check::long_check`: the check of the length comes before the walk, as in the definition. Assumes nothing.
-use Rattle.grammar.proofs.Basics.{◌≡◌, List, [], ℕ, length, eq-eqb, ne_eqb, needs}
+use Rattle.grammar.proofs.Basics.{◌≡◌, List, [], ℕ, length, eq-eqb, ne_eqb}
 use Rattle.job.specs.declared.Checked.{Checked}
 use Rattle.job.specs.Records.{first_fault, length_check_lem, bytes_check}
 use Rattle.job.proofs.RecordChecks.{length_passed}
 use Rattle.long_jobs.specs.Dialect.{long_records_lem}
 use Rattle.long_jobs.specs.Check.{long_format, long_check_lem}
-use Rattle.long_records.proofs.check.long_check.Statement.{statement}
-use Rattle.long_records.proofs.check.long_check.Tie as tie
+use Rattle.long_records.proofs.check.long_check.Goals as goal
 
 module _ (longJob : List ℕ) (c : Checked) (is : c ≡ length_check_lem 49152 12 (length longJob)) where
   by_the_length : (c.number ≡ 0 → ⊥) → c ≡ long_check_lem longJob
@@ -19,8 +18,11 @@ module _ (longJob : List ℕ) (c : Checked) (is : c ≡ length_check_lem 49152 1
 
 ruleset ways = (by_the_length, by_the_walk)
 
-pub long_check_spec : {M : Type 1} → statement M
-long_check_spec =
-    tie.close (tie.spec (λ c κs. search needs) (λ c. search ways)
-    (λ c κs. (length_passed _ _ _ (rw c.before.before.length-check.ensures at c.if1.false)).0)
-    (λ c. search ways))
+pub returns-then-c-ne0 : goal.returns-then-c-ne0
+returns-then-c-ne0 c = record { checked = search ways }
+
+pub check_records-requires : goal.check_records-requires
+check_records-requires c = record { within = (length_passed _ _ _ (rw c.length_check-c.ensures.checked at c.if-c-ne0.false)).0 }
+
+pub returns : goal.returns
+returns c = record { checked = search ways }
