@@ -5,41 +5,40 @@
 ghost use Rattle.std.specs.Prelude.{◌+◌, ◌*◌, ◌≤◌, length};
 
 use job::{Checked, JobRecord, Level};
+use std::io;
 
 // Writes a byte as a number, after a blank.
-fn write_byte(x: u8) {
-    io::write_all(1, b" ");
-    io::print_decimal(1, x as u64);
+fn write_byte(rt: &impl Print, x: u8) -> io::Result<()> {
+    print!(rt; " {x}")
 }
 
 // Writes the bytes of a record, or of none.
-fn write_bytes(part: &[u8]) {
-    let mut i = 0;
-    while i < part.len() {
-        write_byte(part[i]);
-        i += 1;
+fn write_bytes(rt: &impl Print, part: &[u8]) -> io::Result<()> {
+    for x in part {
+        write_byte(rt, *x)?;
     }
+    Ok(())
 }
 
 // Writes the answer on a job. `needed`: whether an I record is needed; showing never needs one.
-fn report(job: &[u8], needed: bool) {
+fn report(rt: &impl Print, job: &[u8], needed: bool) -> io::Result<()> {
     let short = Checked {
         number: 0,
         place: 0,
     };
     let c = checks::call::call_check(short, job, Level::Full, needed);
-    io::print_decimal(1, c.number as u64);
-    io::write_all(1, b" ");
-    io::print_decimal(1, c.place as u64);
-    write_bytes(checks::show::show_refused(job));
-    io::write_all(1, b"\n");
+    let number = c.number;
+    let place = c.place;
+    print!(rt; "{number} {place}")?;
+    write_bytes(rt, checks::show::show_refused(job))?;
+    println!(rt)
 }
 
 // Writes the answer on the first n bytes of a buffer.
-fn report_first(buffer: &[u8], n: usize, needed: bool)
+fn report_first(rt: &impl Print, buffer: &[u8], n: usize, needed: bool) -> io::Result<()>
     requires within { n ≤ length buffer.now }
 {
-    report(&buffer[..n], needed);
+    report(rt, &buffer[..n], needed)
 }
 
 // Makes r record i of a job.
@@ -84,62 +83,62 @@ fn start() -> JobRecord {
     }
 }
 
-fn small_jobs() {
+fn small_jobs(rt: &impl Print) -> io::Result<()> {
     // no S
-    report(b"", true);
-    report(b"", false);
+    report(rt, b"", true)?;
+    report(rt, b"", false)?;
     // no I, where one is needed and where none is
-    report(b"S\x00\x00\x00", true);
-    report(b"S\x00\x00\x00", false);
-    report(b"S\x00\x00\x00I\x00\x00\x00", true);
+    report(rt, b"S\x00\x00\x00", true)?;
+    report(rt, b"S\x00\x00\x00", false)?;
+    report(rt, b"S\x00\x00\x00I\x00\x00\x00", true)?;
     // an unknown kind
-    report(b"S\x00\x00\x00X\x00\x00\x00", false);
+    report(rt, b"S\x00\x00\x00X\x00\x00\x00", false)?;
     // symbols 63 and 64, states 31 and 32
-    report(b"S\x00\x00\x00U\x00\x3f\x00", false);
-    report(b"S\x00\x00\x00U\x00\x40\x00", false);
-    report(b"S\x00\x00\x00T\x1f\x3f\x1f", false);
-    report(b"S\x00\x00\x00T\x20\x3f\x1f", false);
+    report(rt, b"S\x00\x00\x00U\x00\x3f\x00", false)?;
+    report(rt, b"S\x00\x00\x00U\x00\x40\x00", false)?;
+    report(rt, b"S\x00\x00\x00T\x1f\x3f\x1f", false)?;
+    report(rt, b"S\x00\x00\x00T\x20\x3f\x1f", false)?;
     // symbols 63 and 64 in either place of a pair
-    report(b"S\x00\x00\x00P\x00\x3f\x3f", false);
-    report(b"S\x00\x00\x00P\x00\x40\x3f", false);
-    report(b"S\x00\x00\x00P\x00\x3f\x40", false);
+    report(rt, b"S\x00\x00\x00P\x00\x3f\x3f", false)?;
+    report(rt, b"S\x00\x00\x00P\x00\x40\x3f", false)?;
+    report(rt, b"S\x00\x00\x00P\x00\x3f\x40", false)
 }
 
-fn repeats() {
+fn repeats(rt: &impl Print) -> io::Result<()> {
     // the same S, another S, another I
-    report(b"S\x00\x00\x00S\x00\x00\x00", false);
-    report(b"S\x00\x00\x00S\x01\x00\x00", false);
-    report(b"S\x00\x00\x00I\x00\x00\x00I\x01\x00\x00", false);
+    report(rt, b"S\x00\x00\x00S\x00\x00\x00", false)?;
+    report(rt, b"S\x00\x00\x00S\x01\x00\x00", false)?;
+    report(rt, b"S\x00\x00\x00I\x00\x00\x00I\x01\x00\x00", false)?;
     // a record is checked for all before the next
-    report(b"S\x00\x00\x00S\x00\x00\x00X\x00\x00\x00", false);
+    report(rt, b"S\x00\x00\x00S\x00\x00\x00X\x00\x00\x00", false)
 }
 
 // 39 bytes; 4,096 records, which are 16,384 bytes; more bytes than that, also where they are no whole records.
-fn lengths() {
-    let mut job = io::large_buffer();
+fn lengths(rt: &impl Print) -> io::Result<()> {
+    let mut job = [0u8; 65536];
     fill(&mut job, 4097, b'T');
     put(&mut job, 0, start());
-    report_first(&job, 39, true);
-    report_first(&job, job::JOB_BYTES, true);
-    report_first(&job, job::JOB_BYTES, false);
-    report_first(&job, 16387, false);
-    report_first(&job, 16388, false);
+    report_first(rt, &job, 39, true)?;
+    report_first(rt, &job, job::JOB_BYTES, true)?;
+    report_first(rt, &job, job::JOB_BYTES, false)?;
+    report_first(rt, &job, 16387, false)?;
+    report_first(rt, &job, 16388, false)
 }
 
 // 256 rules and an S, then 257.
-fn rules() {
-    let mut job = io::large_buffer();
+fn rules(rt: &impl Print) -> io::Result<()> {
+    let mut job = [0u8; 65536];
     fill(&mut job, job::RULES, b'P');
     put(&mut job, 256, start());
-    report_first(&job, 1028, false);
+    report_first(rt, &job, 1028, false)?;
     fill(&mut job, 257, b'P');
     put(&mut job, 257, start());
-    report_first(&job, 1032, false);
+    report_first(rt, &job, 1032, false)
 }
 
-fn main() {
-    small_jobs();
-    repeats();
-    lengths();
-    rules();
+fn main(rt: HostRuntime) -> io::Result<()> {
+    small_jobs(&rt)?;
+    repeats(&rt)?;
+    lengths(&rt)?;
+    rules(&rt)
 }

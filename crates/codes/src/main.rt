@@ -9,24 +9,22 @@ const INPUT_BYTES: usize = 16385;
 const OUTPUT_BYTES: usize = 448;
 
 // Prints the codes of a job.
-fn codes(job: &[u8]) {
+fn codes(rt: &HostRuntime, job: &[u8]) {
     let mut table = [0u8; job::TABLE_BYTES];
     let mut codes = [0u8; job::CODE_BYTES];
     let judged = judging::operation::verdicts(job, &mut table, &mut codes);
     let mut out = [0u8; OUTPUT_BYTES];
     let written = printing::operations::codes_output(judged.number, judged.place, &codes, &mut out);
-    console::write_output(&out, written.bytes);
+    console::write_output(rt, &out, written.bytes);
 }
 
-fn main() {
-    if !console::has_no_words(b"usage: ropeclover-codes < JOB; it takes no words\n") {
+fn main(rt: HostRuntime) {
+    if !console::has_no_words(&rt, "usage: ropeclover-codes < JOB; it takes no words\n") {
         return;
     }
     let mut buffer = [0u8; INPUT_BYTES];
-    let input = console::read_input(&mut buffer);
-    if !input.ok {
-        os::fail(b"standard input");
-        return;
+    match console::read_input(&mut rt.stdin(), &mut buffer) {
+        Ok(len) => codes(&rt, console::part(&buffer, len)),
+        Err(error) => console::tell_failure(&rt, "standard input", &error),
     }
-    codes(console::part(&buffer, input.len));
 }

@@ -1,44 +1,56 @@
 // What the programs share: their words, reading a job from standard input, and writing to standard output.
 #![tactic(auto)]
 
-ghost use Rattle.std.specs.Prelude.{◌≡◌, ◌≤◌, length};
+ghost use Rattle.std.specs.Prelude.{◌≡◌, ◌≤◌, length, IfOk};
 ghost use Rattle.console.specs.Part.{first_bytes};
 
-use libc::{STDERR_FILENO, STDIN_FILENO, STDOUT_FILENO};
+use std::env::{Env, FillError};
+use std::io;
+use std::io::Read;
 
-// How reading ended: whether no read failed, and how many bytes were read.
-#[derive(Clone, Copy)]
-pub struct Input {
-    pub ok: bool,
-    pub len: usize,
+// Whether the command line has a word i, counted from 1.
+pub fn has_word(rt: &impl Env, i: usize) -> bool {
+    let mut word = [0u8; 1];
+    match rt.arg(i, &mut word) {
+        Ok(_) => true,
+        Err(FillError::TooLong) => true,
+        Err(FillError::NotPresent) => false,
+    }
+}
+
+// Writes a text to standard error, as far as that takes it.
+pub fn tell(rt: &impl Eprint, text: &str) {
+    let _ = rt.eprint(text);
+}
+
+// Names on standard error what failed, and why.
+pub fn tell_failure(rt: &impl Eprint, what: &str, error: &io::Error) {
+    let _ = eprintln!(rt; "{what}: {error}");
 }
 
 // Whether the command line has no words; where it has some, the usage goes to standard error.
-pub fn has_no_words(usage: &[u8]) -> bool {
-    if os::arg_count() < 2 {
+pub fn has_no_words(rt: &(impl Env + Eprint), usage: &str) -> bool {
+    if !has_word(rt, 1) {
         return true;
     }
-    io::write_all(STDERR_FILENO, usage);
+    tell(rt, usage);
     false
 }
 
-// Reads standard input until the buffer is full or the input ends.
-pub fn read_input(buf: &mut [u8]) -> Input
-    ensures within { result.len ≤ length buf.new }
+// Reads the input until the buffer is full or the input ends, and returns how many bytes it put at the start of the
+// buffer.
+pub fn read_input<R: Read>(input: &mut R, buf: &mut [u8]) -> io::Result<usize>
+    ensures within { IfOk result (λ n. n ≤ length buf.new) }
 {
     let mut len = 0;
     while len < buf.len() {
-        let got = libc::read(STDIN_FILENO, &mut buf[len..]);
-        if got < 0 {
-            return Input { ok: false, len };
-        }
-        let n = io::count(got, &buf[len..]);
+        let n = input.read(&mut buf[len..])?;
         if n == 0 {
-            return Input { ok: true, len };
+            return Ok(len);
         }
         len += n;
     }
-    Input { ok: true, len }
+    Ok(len)
 }
 
 // The first n bytes of a buffer, none where it has fewer.
@@ -53,8 +65,8 @@ pub fn part(buf: &[u8], n: usize) -> &[u8]
 
 // Writes the first n bytes of an output to standard output, by one write where all are taken; a failure is named on
 // standard error.
-pub fn write_output(output: &[u8], n: usize) {
-    if !io::write_all(STDOUT_FILENO, part(output, n)) {
-        os::fail(b"standard output");
+pub fn write_output(rt: &(impl Print + Eprint), output: &[u8], n: usize) {
+    if let Err(error) = rt.write_all(part(output, n)) {
+        tell_failure(rt, "standard output", &error);
     }
 }

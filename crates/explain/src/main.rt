@@ -5,7 +5,7 @@
 
 ghost use Rattle.std.specs.Prelude.{◌≡◌, ◌≤◌, length};
 
-use libc::STDERR_FILENO;
+use std::env::Env;
 
 // One byte more than a job may have, so that longer input is refused as too long.
 const INPUT_BYTES: usize = 16385;
@@ -79,20 +79,20 @@ fn symbol_of(word: &[u8]) -> Word {
     }
 }
 
-// Word i of the command line as a symbol.
-fn word_at(i: usize) -> Word {
+// Word i of the command line as a symbol; a word of more than 16 bytes is none.
+fn word_at(rt: &impl Env, i: usize) -> Word {
     let mut word = [0u8; 16];
-    let n = os::arg(i, &mut word);
+    let n = rt.arg(i, &mut word).unwrap_or(0);
     symbol_of(console::part(&word, n))
 }
 
 // Fills the form with the words of the command line; false where one is no symbol.
-fn read_form(form: &mut [u8], count: usize) -> bool
+fn read_form(rt: &impl Env, form: &mut [u8], count: usize) -> bool
     requires within { count ≤ length form.old }
 {
     let mut i = 0;
     while i < count {
-        let word = word_at(i + 1);
+        let word = word_at(rt, i + 1);
         if !word.ok {
             return false;
         }
@@ -103,7 +103,7 @@ fn read_form(form: &mut [u8], count: usize) -> bool
 }
 
 // Prints the explanation of a form, by way of a buffer for the output.
-fn print_explanation(job: &[u8], form: &[u8], out: &mut [u8]) {
+fn print_explanation(rt: &HostRuntime, job: &[u8], form: &[u8], out: &mut [u8]) {
     let mut table = [0u8; job::TABLE_BYTES];
     let mut reasons = [0u32; job::REASON_NUMBERS];
     let mut listing = [0u8; LISTING_BYTES];
@@ -116,70 +116,80 @@ fn print_explanation(job: &[u8], form: &[u8], out: &mut [u8]) {
         &listing,
         out,
     );
-    console::write_output(out, written.bytes);
+    console::write_output(rt, out, written.bytes);
 }
 
 // Prints the explanation of a form.
-fn explain(job: &[u8], form: &[u8]) {
+fn explain(rt: &HostRuntime, job: &[u8], form: &[u8]) {
     let mut out = [0u8; OUTPUT_BYTES];
-    print_explanation(job, form, &mut out);
+    print_explanation(rt, job, form, &mut out);
 }
 
 // How many symbols the words of the command line spell, which are put into the form: none for one empty word. 4,097
 // where one of them is no symbol.
-fn read_words(form: &mut [u8], count: usize) -> usize
+fn read_words(rt: &impl Env, form: &mut [u8], count: usize) -> usize
     requires within { count ≤ length form.old }
 {
     if count == 1 {
         let mut word = [0u8; 16];
-        if os::arg(1, &mut word) == 0 {
+        if rt.arg(1, &mut word).unwrap_or(0) == 0 {
             return 0;
         }
     }
-    if read_form(form, count) {
+    if read_form(rt, form, count) {
         return count;
     }
     MOST_WORDS + 1
 }
 
 // Reads the job, and explains the form, or the start symbol where no words are given.
-fn explain_input(form: &[u8], symbols: usize, words: usize) {
+fn explain_input(rt: &HostRuntime, form: &[u8], symbols: usize, words: usize) {
     let mut buffer = [0u8; INPUT_BYTES];
-    let input = console::read_input(&mut buffer);
-    if !input.ok {
-        os::fail(b"standard input");
-        return;
+    match console::read_input(&mut rt.stdin(), &mut buffer) {
+        Ok(len) => explain_job(rt, console::part(&buffer, len), form, symbols, words),
+        Err(error) => console::tell_failure(rt, "standard input", &error),
     }
-    let job = console::part(&buffer, input.len);
-    if words == 0 {
-        let start = [lookup::facts::field_of(job, b'S')];
-        explain(job, &start);
-        return;
-    }
-    explain(job, console::part(form, symbols));
 }
 
-fn main() {
-    let words = os::arg_count();
-    let mut form = [0u8; MOST_WORDS];
+// Explains the form, or the start symbol of the job where no words are given.
+fn explain_job(rt: &HostRuntime, job: &[u8], form: &[u8], symbols: usize, words: usize) {
     if words == 0 {
+        let start = [lookup::facts::field_of(job, b'S')];
+        explain(rt, job, &start);
         return;
     }
-    let count = words - 1;
+    explain(rt, job, console::part(form, symbols));
+}
+
+// How many words the command line has, one more than are read where it has more.
+fn word_count(rt: &impl Env) -> usize
+    ensures within { result ≤ 4097 }
+{
+    for i in 0..MOST_WORDS + 1 {
+        if !console::has_word(rt, i + 1) {
+            return i;
+        }
+    }
+    MOST_WORDS + 1
+}
+
+fn main(rt: HostRuntime) {
+    let mut form = [0u8; MOST_WORDS];
+    let count = word_count(&rt);
     if MOST_WORDS < count {
-        io::write_all(
-            STDERR_FILENO,
-            b"ropeclover-explain: too many symbols; a form has at most 64\n",
+        console::tell(
+            &rt,
+            "ropeclover-explain: too many symbols; a form has at most 64\n",
         );
         return;
     }
-    let symbols = read_words(&mut form, count);
+    let symbols = read_words(&rt, &mut form, count);
     if MOST_WORDS < symbols {
-        io::write_all(
-            STDERR_FILENO,
-            b"usage: ropeclover-explain [SYMBOL ..] < JOB\neach SYMBOL is a number from 0 to 63; without one the start symbol is explained, and '' is the empty form\n",
+        console::tell(
+            &rt,
+            "usage: ropeclover-explain [SYMBOL ..] < JOB\neach SYMBOL is a number from 0 to 63; without one the start symbol is explained, and '' is the empty form\n",
         );
         return;
     }
-    explain_input(&form, symbols, count);
+    explain_input(&rt, &form, symbols, count);
 }

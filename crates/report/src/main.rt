@@ -9,25 +9,23 @@ const INPUT_BYTES: usize = 16385;
 const OUTPUT_BYTES: usize = 117;
 
 // Prints the report on a job.
-fn report(job: &[u8]) {
+fn report(rt: &HostRuntime, job: &[u8]) {
     let mut table = [0u8; job::TABLE_BYTES];
     let mut reasons = [0u32; job::REASON_NUMBERS];
     let mut codes = [0u8; job::CODE_BYTES];
     let report = reporting::operation::report(job, &mut table, &mut reasons, &mut codes);
     let mut out = [0u8; OUTPUT_BYTES];
     let written = printing::operations::report_output(report, &mut out);
-    console::write_output(&out, written.bytes);
+    console::write_output(rt, &out, written.bytes);
 }
 
-fn main() {
-    if !console::has_no_words(b"usage: ropeclover-report < JOB; it takes no words\n") {
+fn main(rt: HostRuntime) {
+    if !console::has_no_words(&rt, "usage: ropeclover-report < JOB; it takes no words\n") {
         return;
     }
     let mut buffer = [0u8; INPUT_BYTES];
-    let input = console::read_input(&mut buffer);
-    if !input.ok {
-        os::fail(b"standard input");
-        return;
+    match console::read_input(&mut rt.stdin(), &mut buffer) {
+        Ok(len) => report(&rt, console::part(&buffer, len)),
+        Err(error) => console::tell_failure(&rt, "standard input", &error),
     }
-    report(console::part(&buffer, input.len));
 }

@@ -1,0 +1,9 @@
+-- The bytes read so far lie within the buffer.
+use Rattle.std.proofs.Common.{◌-◌, ◌≤◌, length}
+use Rattle.console.proofs.read_input.Given as goal
+
+abbrev pub invariant-loop-len : goal.invariant-loop-len
+invariant-loop-len g l = l.len ≤ length l.buf
+
+abbrev pub decreases-loop-len : goal.decreases-loop-len
+decreases-loop-len g l = length l.buf - l.len
