@@ -8,7 +8,7 @@ use std::env::{Env, FillError};
 use std::io;
 use std::io::Read;
 
-// Whether the command line has a word i, counted from 1.
+// Whether the command line has a word i; word 0 is the name of the program.
 pub fn has_word(rt: &impl Env, i: usize) -> bool {
     let mut word = [0u8; 1];
     match rt.arg(i, &mut word) {

@@ -175,6 +175,9 @@ fn word_count(rt: &impl Env) -> usize
 
 fn main(rt: HostRuntime) {
     let mut form = [0u8; MOST_WORDS];
+    if !console::has_word(&rt, 0) {
+        return;
+    }
     let count = word_count(&rt);
     if MOST_WORDS < count {
         console::tell(
