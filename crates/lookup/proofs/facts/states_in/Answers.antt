@@ -1,11 +1,10 @@
 -- `facts::states_in`: one law for each kind that names states, and one for the others. Assumes nothing.
-use Rattle.grammar.proofs.Basics.{◌≡◌, ℕ, ◌+◌, add-one, ne_eqb, needs}
+use Rattle.grammar.proofs.Basics.{◌≡◌, ℕ, ◌+◌, add-one, ne_eqb}
 use Prim.Native.Nat.{max}
 use Rattle.job.specs.declared.JobRecord.{JobRecord}
 use Rattle.job.specs.Format.{byte_t, byte_i, byte_f}
 use Rattle.job.specs.Job.{states_in_lem}
-use Rattle.lookup.proofs.facts.states_in.Statement.{statement}
-use Rattle.lookup.proofs.facts.states_in.Tie as tie
+use Rattle.lookup.proofs.facts.states_in.Goals as goal
 
 module _ (r : JobRecord) where
   of_transition : (n : ℕ) → r.kind ≡ byte_t → n ≡ max r.first r.third → n + 1 ≡ states_in_lem r
@@ -22,7 +21,14 @@ module _ (r : JobRecord) where
 
 ruleset ways = (of_transition, of_initial, of_final, of_others)
 
-pub states_in_spec : {M : Type 1} → statement M
-states_in_spec = tie.close (tie.spec (λ c. search needs) (λ c. search needs) (λ c κs. search needs) (λ c. search needs)
-    (λ c. search ways) (λ c. search needs) (λ c. search ways) (λ c. search needs) (λ c. search ways)
-    (λ c. search ways))
+pub returns-then-r-eq84 : goal.returns-then-r-eq84
+returns-then-r-eq84 c = record { states = search ways }
+
+pub returns-then-r-eq73 : goal.returns-then-r-eq73
+returns-then-r-eq73 c = record { states = search ways }
+
+pub returns-then-r-eq70 : goal.returns-then-r-eq70
+returns-then-r-eq70 c = record { states = search ways }
+
+pub returns : goal.returns
+returns c = record { states = search ways }
