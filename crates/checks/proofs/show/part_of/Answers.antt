@@ -2,8 +2,7 @@
 use Rattle.grammar.proofs.Basics.{◌≡◌, and-false, ◌<◌, ◌≤◌, ◌*◌, arith, le-leb, lt-leb}
 use Rattle.job.specs.declared.Checked.{Checked}
 use Rattle.job.specs.Show.{part_of_lem}
-use Rattle.checks.proofs.show.part_of.Statement.{statement}
-use Rattle.checks.proofs.show.part_of.Tie as tie
+use Rattle.checks.proofs.show.part_of.Goals as goal
 
 module _ (c : Checked) where
   below_three : c.number < 3 → record { offset = 0; length = 0 } ≡ part_of_lem c
@@ -20,7 +19,14 @@ module _ (c : Checked) where
 
 ruleset ways = (below_three, above_seven, record_part)
 
-pub part_of_spec : {M : Type 1} → statement M
-part_of_spec = tie.close (tie.spec (λ c. search ways) (λ c. search ways)
-    (λ c. omega (arith, c.before.before.before.before.before.requires (omega arith) (omega arith)))
-    (λ c. search ways))
+pub returns-then-c-lt3 : goal.returns-then-c-lt3
+returns-then-c-lt3 c = record { part = search ways }
+
+pub returns-then-c-gt7 : goal.returns-then-c-gt7
+returns-then-c-gt7 c = record { part = search ways }
+
+pub overflow_mul-result : goal.overflow_mul-result
+overflow_mul-result c = omega (arith, c.requires.within (omega arith) (omega arith))
+
+pub returns : goal.returns
+returns c = record { part = search ways }

@@ -1,12 +1,11 @@
 -- `check::order_fault`: one law for each way out, over the tests made on the way. Assumes nothing.
-use Rattle.grammar.proofs.Basics.{◌≡◌, true, false, Bool, ◌<◌, ◌≤◌, le-leb, lt-leb, needs}
+use Rattle.grammar.proofs.Basics.{◌≡◌, true, false, Bool, ◌<◌, ◌≤◌, le-leb, lt-leb, rules}
 use Rattle.job.specs.declared.JobRecord.{JobRecord}
 use Rattle.job.specs.declared.Limits.{Limits}
 use Rattle.job.specs.declared.Tally.{Tally}
 use Rattle.job.specs.Format.{is_rule_lem}
 use Rattle.job.specs.Inside.Walk.{is_second_by, order_fault_lem}
-use Rattle.checks.proofs.check.order_fault.Statement.{statement}
-use Rattle.checks.proofs.check.order_fault.Tie as tie
+use Rattle.checks.proofs.check.order_fault.Goals as goal
 
 module _ (limits : Limits) (t : Tally) (r : JobRecord) (second : Bool) (of : second ≡ is_second_by t r) where
   is_second_lem' : second ≡ true → 6 ≡ order_fault_lem limits t r
@@ -26,8 +25,16 @@ module _ (limits : Limits) (t : Tally) (r : JobRecord) (second : Bool) (of : sec
     unfolding order_fault_lem
     no_rule e = rw (← of, first, ← is, e)
 
-ruleset ways = (is_second_lem', one_rule_more, rule_within, no_rule, needs)
+ruleset ways = (is_second_lem', one_rule_more, rule_within, no_rule, rules)
 
-pub order_fault_spec : {M : Type 1} → statement M
-order_fault_spec = tie.close (tie.spec (λ c κs. search needs) (λ c. search ways) (λ c κs. search needs)
-    (λ c. search ways) (λ c. search ways) (λ c. search ways))
+pub returns-then-is_second : goal.returns-then-is_second
+returns-then-is_second c = record { fault = search ways }
+
+pub returns-then-limits-seen : goal.returns-then-limits-seen
+returns-then-limits-seen c = record { fault = search ways }
+
+pub returns-else-limits-seen : goal.returns-else-limits-seen
+returns-else-limits-seen c = record { fault = search ways }
+
+pub returns-else-is_rule : goal.returns-else-is_rule
+returns-else-is_rule c = record { fault = search ways }

@@ -1,13 +1,12 @@
 -- `check::check`: the check of the length comes before the walk, as in the definition. Assumes nothing.
-use Rattle.grammar.proofs.Basics.{◌≡◌, Bool, List, [], ℕ, length, eq-eqb, ne_eqb, needs}
+use Rattle.grammar.proofs.Basics.{◌≡◌, Bool, List, [], ℕ, length, eq-eqb, ne_eqb}
 use Rattle.job.specs.declared.Limits.{Limits}
 use Rattle.job.specs.declared.Checked.{Checked}
 use Rattle.job.specs.Format.{field_classes, records_of}
 use Rattle.job.specs.Records.{or_else, first_fault, length_check_lem, bytes_check}
 use Rattle.job.specs.Check.{job_format, missing, check_of}
 use Rattle.job.proofs.RecordChecks.{length_passed}
-use Rattle.checks.proofs.check.check.Statement.{statement}
-use Rattle.checks.proofs.check.check.Tie as tie
+use Rattle.checks.proofs.check.check.Goals as goal
 
 module _ (limits : Limits) (needed : Bool) (job : List ℕ) (c : Checked)
     (is : c ≡ length_check_lem 16384 4 (length job)) where
@@ -23,7 +22,11 @@ module _ (limits : Limits) (needed : Bool) (job : List ℕ) (c : Checked)
 
 ruleset ways = (by_the_length, by_the_walk)
 
-pub check_spec : {M : Type 1} → statement M
-check_spec =
-    tie.close (tie.spec (λ c κs. search needs) (λ c. search ways)
-    (λ c κs. length_passed _ _ _ (rw c.before.before.length-check.ensures at c.if1.false)) (λ c. search ways))
+pub returns-then-c-ne0 : goal.returns-then-c-ne0
+returns-then-c-ne0 c = record { checked = search ways }
+
+pub check_records-requires : goal.check_records-requires
+check_records-requires c = record { whole = length_passed _ _ _ (rw c.length_check-c.ensures.checked at c.if-c-ne0.false) }
+
+pub returns : goal.returns
+returns c = record { checked = search ways }

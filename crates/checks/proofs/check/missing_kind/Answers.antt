@@ -3,8 +3,7 @@ use Rattle.grammar.proofs.Basics.{◌≡◌, true, false, Bool, ℕ, eq-eqb, ne_
 use Rattle.job.specs.declared.Tally.{Tally}
 use Rattle.job.specs.Check.{refused, accepted}
 use Rattle.job.specs.Inside.Walk.{missing_by}
-use Rattle.checks.proofs.check.missing_kind.Statement.{statement}
-use Rattle.checks.proofs.check.missing_kind.Tie as tie
+use Rattle.checks.proofs.check.missing_kind.Goals as goal
 
 module _ (needed : Bool) (t : Tally) (n : ℕ) where
   no_start : t.starts ≡ 0 → refused 8 n ≡ missing_by needed t n
@@ -25,5 +24,14 @@ module _ (needed : Bool) (t : Tally) (n : ℕ) where
 
 ruleset ways = (no_start, no_initial, with_initial, none_needed)
 
-pub missing_kind_spec : {M : Type 1} → statement M
-missing_kind_spec = tie.close (tie.spec (λ c. search ways) (λ c. search ways) (λ c. search ways) (λ c. search ways))
+pub returns-then-seen-eq0 : goal.returns-then-seen-eq0
+returns-then-seen-eq0 c = record { missing = search ways }
+
+pub returns-then-seen-eq0-2 : goal.returns-then-seen-eq0-2
+returns-then-seen-eq0-2 c = record { missing = search ways }
+
+pub returns-else-seen-eq0-2 : goal.returns-else-seen-eq0-2
+returns-else-seen-eq0-2 c = record { missing = search ways }
+
+pub returns-else-needed : goal.returns-else-needed
+returns-else-needed c = record { missing = search ways }

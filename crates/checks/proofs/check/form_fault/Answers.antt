@@ -1,11 +1,10 @@
 -- `check::form_fault`: the tests are the definition's; a known kind has one of the seven rows. Assumes nothing.
-use Rattle.grammar.proofs.Basics.{◌≡◌, ◌∙◌, sym, ℕ, ◌<◌, eq-eqb, ne_eqb, needs}
+use Rattle.grammar.proofs.Basics.{◌≡◌, ◌∙◌, sym, ℕ, ◌<◌, eq-eqb, ne_eqb}
 use Rattle.job.specs.declared.JobRecord.{JobRecord}
 use Rattle.job.specs.Format.{field_classes, row_of, bad_field_lem}
 use Rattle.job.specs.Inside.Walk.{form_fault_lem}
 use Rattle.job.proofs.Shapes.{known_row}
-use Rattle.checks.proofs.check.form_fault.Statement.{statement}
-use Rattle.checks.proofs.check.form_fault.Tie as tie
+use Rattle.checks.proofs.check.form_fault.Goals as goal
 
 module _ (r : JobRecord) (row : ℕ) (is : row ≡ row_of r.kind) where
   unknown_kind : row ≡ 7 → 3 ≡ form_fault_lem r
@@ -26,7 +25,14 @@ module _ (r : JobRecord) (row : ℕ) (is : row ≡ row_of r.kind) where
 
 ruleset ways = (unknown_kind, known_kind, misfit, no_fault)
 
-pub form_fault_spec : {M : Type 1} → statement M
-form_fault_spec =
-    tie.close (tie.spec (λ c κs. search needs) (λ c. search ways) (λ c κs. search ways) (λ c. search ways)
-    (λ c. search ways))
+pub returns-then-kind_row-eq7 : goal.returns-then-kind_row-eq7
+returns-then-kind_row-eq7 c = record { fault = search ways }
+
+pub bad_field-requires : goal.bad_field-requires
+bad_field-requires c = record { known = search ways }
+
+pub returns-then-bad_field-ne0 : goal.returns-then-bad_field-ne0
+returns-then-bad_field-ne0 c = record { fault = search ways }
+
+pub returns : goal.returns
+returns c = record { fault = search ways }

@@ -4,8 +4,7 @@ use Rattle.job.specs.declared.JobRecord.{JobRecord}
 use Rattle.job.specs.declared.Tally.{Tally}
 use Rattle.job.specs.Format.{byte_i, byte_s}
 use Rattle.job.specs.Inside.Walk.{is_second_by}
-use Rattle.checks.proofs.check.is_second.Statement.{statement}
-use Rattle.checks.proofs.check.is_second.Tie as tie
+use Rattle.checks.proofs.check.is_second.Goals as goal
 
 module _ (t : Tally) (r : JobRecord) where
   of_start : r.kind ≡ byte_s → ltb 0 t.starts ≡ is_second_by t r
@@ -22,5 +21,11 @@ module _ (t : Tally) (r : JobRecord) where
 
 ruleset ways = (of_start, of_initial, of_another)
 
-pub is_second_spec : {M : Type 1} → statement M
-is_second_spec = tie.close (tie.spec (λ c. search ways) (λ c. search ways) (λ c. search ways))
+pub returns-then-r-eq83 : goal.returns-then-r-eq83
+returns-then-r-eq83 c = record { says = search ways }
+
+pub returns-then-r-eq73 : goal.returns-then-r-eq73
+returns-then-r-eq73 c = record { says = search ways }
+
+pub returns : goal.returns
+returns c = record { says = search ways }
