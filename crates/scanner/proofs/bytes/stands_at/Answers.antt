@@ -1,0 +1,10 @@
+-- `bytes::stands_at`: the byte at the offset decides, and past the end none stands. Assumes nothing.
+use Rattle.grammar.proofs.Basics.{rules}
+use Rattle.scanner.proofs.Offsets.{decides_here, none_past}
+use Rattle.scanner.proofs.bytes.stands_at.Goals as goal
+
+pub returns-then-at-text : goal.returns-then-at-text
+returns-then-at-text c = record { says = search (decides_here, rules) }
+
+pub returns : goal.returns
+returns c = record { says = search (none_past, rules) }

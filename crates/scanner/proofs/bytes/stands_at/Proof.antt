@@ -1,9 +1,0 @@
--- `bytes::stands_at`: the byte at the offset decides, and past the end none stands. Assumes nothing.
-use Rattle.grammar.proofs.Basics.{arith, needs}
-use Rattle.scanner.proofs.Offsets.{decides_here, none_past}
-use Rattle.scanner.proofs.bytes.stands_at.Statement.{statement}
-use Rattle.scanner.proofs.bytes.stands_at.Tie as tie
-
-pub stands_at_spec : {M : Type 1} → statement M
-stands_at_spec = tie.close (tie.spec (λ c. omega arith) (λ c. search (decides_here, needs))
-    (λ c. search (none_past, needs)))
