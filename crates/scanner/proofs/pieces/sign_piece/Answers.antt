@@ -1,5 +1,5 @@
 -- `pieces::sign_piece`: each arm has its byte, and the last arm none of the six. Assumes nothing.
-use Rattle.grammar.proofs.Basics.{◌∙◌, arith, ne_eqb}
+use Rattle.grammar.proofs.Basics.{arith}
 use Rattle.scanner.proofs.FirstBytes.{mark_here, end_here}
 use Rattle.scanner.proofs.pieces.sign_piece.Goals as goal
 
@@ -23,18 +23,3 @@ returns-in-34 c = record { piece = rw c.in-34.is c.quoted_at.ensures.string }
 
 pub returns-in-37 : goal.returns-in-37
 returns-in-37 c = record { piece = rw c.in-37.is c.percent_at.ensures.literal }
-
-pub returns-in_default : goal.returns-in_default
-returns-in_default c =
-    record {
-      piece =
-          let rest = c.in_default.in_default-own.rest in
-          c.piece_if-in_default.ensures.piece ∙ rw (
-            ne_eqb _ 61 rest.0.0.0.0.0.1,
-            ne_eqb _ 47 rest.0.0.0.0.1,
-            ne_eqb _ 59 rest.0.0.0.1,
-            ne_eqb _ 13 rest.0.0.1,
-            ne_eqb _ 34 rest.0.1,
-            ne_eqb _ 37 rest.1,
-          );
-    }
