@@ -1,4 +1,4 @@
-use Rattle.grammar.proofs.Basics.{◌≡◌, refl, ◌≤◌, ◌-◌, add-one, arith, length, length-set}
+use Rattle.grammar.proofs.Basics.{◌≡◌, refl, add-one, arith, length-set}
 use Rattle.job.specs.Written.{written, cleared}
 use Rattle.job.proofs.Clearing.{cleared_more}
 use Rattle.transitions.proofs.clear.clear_reasons.Goals as goal

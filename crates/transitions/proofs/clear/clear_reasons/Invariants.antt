@@ -1,7 +1,6 @@
 -- `clear::clear_reasons` meets its contract. The loop's invariant: the first i reasons are cleared. Assumes nothing.
-use Rattle.grammar.proofs.Basics.{◌≡◌, refl, ◌≤◌, ◌-◌, add-one, arith, length, length-set}
-use Rattle.job.specs.Written.{written, cleared}
-use Rattle.job.proofs.Clearing.{cleared_more}
+use Rattle.grammar.proofs.Basics.{◌≡◌, ◌≤◌, ◌-◌, length}
+use Rattle.job.specs.Written.{cleared}
 use Rattle.transitions.proofs.clear.clear_reasons.Given as goal
 
 abbrev pub invariant-loop-i : goal.invariant-loop-i

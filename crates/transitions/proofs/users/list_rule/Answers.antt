@@ -12,28 +12,28 @@ pub append-requires : goal.append-requires
 append-requires c =
     record {
       room =
-    let fits = body_fits _ _ c.unpack-rule.ensures.rule c.requires.fits.0 in
-    (fits.second, omega (arith, c.requires.fits.1.at_most _ fits.second), room_wider (omega arith) c.requires.fits.1);
+          let fits = body_fits _ _ c.unpack-rule.ensures.rule c.requires.fits.0 in
+          (fits.second, omega (arith, c.requires.fits.1.at_most _ fits.second), room_wider (omega arith) c.requires.fits.1);
     }
 
 pub append-requires-then-rule : goal.append-requires-then-rule
 append-requires-then-rule c =
     record {
       room =
-    let fits = body_fits _ _ c.unpack-rule.ensures.rule c.requires.fits.0 in
-    let one = c.append in
-    let count = rw (ne_eqb _ _ (λ e. c.if-rule.true (sym e))) at (one.ensures.appended.counts _ fits.third) in (
-      fits.third,
-      omega (arith, count, c.requires.fits.1.at_most _ fits.third),
-      room_wider (omega arith) (room_after one.ensures.appended one.auto.users one.auto.used c.requires.fits.1),
-    );
+          let fits = body_fits _ _ c.unpack-rule.ensures.rule c.requires.fits.0 in
+          let one = c.append in
+          let count = rw (ne_eqb _ _ (λ e. c.if-rule.true (sym e))) at (one.ensures.appended.counts _ fits.third) in (
+            fits.third,
+            omega (arith, count, c.requires.fits.1.at_most _ fits.third),
+            room_wider (omega arith) (room_after one.ensures.appended one.auto.users one.auto.used c.requires.fits.1),
+          );
     }
 
 pub returns-then-rule : goal.returns-then-rule
 returns-then-rule c =
     record {
       appended = two_appended _ _ c.unpack-rule.ensures.rule c.append.ensures.appended (search)
-    (search) (search);
+          (search) (search);
     }
 
 pub shape_of-users-else-rule : goal.shape_of-users-else-rule
@@ -46,7 +46,7 @@ pub returns-else-rule : goal.returns-else-rule
 returns-else-rule c =
     record {
       appended = twin_appended _ _ c.unpack-rule.ensures.rule c.append.ensures.appended
-    (search) (search);
+          (search) (search);
     }
 
 pub shape_of-users-else-rule-eq80 : goal.shape_of-users-else-rule-eq80
@@ -59,5 +59,5 @@ pub returns-else-rule-eq80 : goal.returns-else-rule-eq80
 returns-else-rule-eq80 c =
     record {
       appended = one_appended _ _ c.unpack-rule.ensures.rule c.append.ensures.appended (search)
-    (search) (search);
+          (search) (search);
     }

@@ -1,7 +1,5 @@
-use Rattle.grammar.proofs.Basics.{◌≡◌, ◌≤◌, ◌-◌, arith, length, take}
+use Rattle.grammar.proofs.Basics.{arith}
 use lib.Seq.{take_all}
-use Rattle.job.specs.Inside.Keys.{rules_of_keys}
-use Rattle.machine.specs.Inside.Users.{UsersListed}
 use Rattle.machine.proofs.Users.Appending.{room_wider}
 use Rattle.machine.proofs.Users.Mentioning.{rules_long, listed_none, listed_next}
 use Rattle.transitions.proofs.users.list_rules.Goals as goal
@@ -13,14 +11,13 @@ pub list_rule-requires : goal.list_rule-requires
 list_rule-requires c =
     record {
       fits =
-    let long = rules_long c.args.keys.now c.loop-k.k (omega arith) in
-    (c.requires.rules.fit _ c.loop-k-test.true, room_wider (omega (arith, long)) c.loop-k.invariant.3.room);
+          let long = rules_long c.args.keys.now c.loop-k.k (omega arith) in
+          (c.requires.rules.fit _ c.loop-k-test.true, room_wider (omega (arith, long)) c.loop-k.invariant.3.room);
     }
 
 pub loop-k-preserved : goal.loop-k-preserved
 loop-k-preserved c =
-    let one = c.list_rule in
-    (
+    let one = c.list_rule in (
       omega arith,
       omega (arith, one.auto),
       omega (arith, one.auto),
@@ -37,5 +34,5 @@ pub returns : goal.returns
 returns c =
     record {
       indexed =
-    rw (take_all c.loop-k.k c.args.keys.now (omega arith)) at c.loop-k.invariant.3;
+          rw (take_all c.loop-k.k c.args.keys.now (omega arith)) at c.loop-k.invariant.3;
     }

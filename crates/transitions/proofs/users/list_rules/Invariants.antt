@@ -1,10 +1,7 @@
 -- `users::list_rules` meets its contract. The loop's invariant: the rules passed so far are indexed. Assumes nothing.
-use Rattle.grammar.proofs.Basics.{◌≡◌, ◌≤◌, ◌-◌, arith, length, take}
-use lib.Seq.{take_all}
+use Rattle.grammar.proofs.Basics.{◌≡◌, ◌≤◌, ◌-◌, length, take}
 use Rattle.job.specs.Inside.Keys.{rules_of_keys}
 use Rattle.machine.specs.Inside.Users.{UsersListed}
-use Rattle.machine.proofs.Users.Appending.{room_wider}
-use Rattle.machine.proofs.Users.Mentioning.{rules_long, listed_none, listed_next}
 use Rattle.transitions.proofs.users.list_rules.Given as goal
 
 abbrev pub invariant-loop-k : goal.invariant-loop-k
