@@ -1,4 +1,4 @@
-use Rattle.grammar.proofs.Basics.{◌≡◌, ◌∙◌, sym, ap, refl, List, ℕ, ◌<◌, ◌≤◌, ◌+◌, ◌-◌, ◌*◌, arith}
+use Rattle.grammar.proofs.Basics.{◌≡◌, ◌∙◌, sym, ap, refl, List, ℕ, ◌<◌, ◌+◌, ◌*◌, arith}
 use Rattle.grammar.specs.Counting.{count}
 use Rattle.grammar.proofs.Counting.{count_cong, count_apart, count_bound}
 use lib.Count.{ones, ones-le}
@@ -43,6 +43,6 @@ unfolding done_bits
 returns c =
     record {
       counted =
-    let end : c.loop-k.k ≡ 2048 = omega arith in
-    rw end at c.loop-k.invariant.1;
+          let end : c.loop-k.k ≡ 2048 = omega arith in
+          rw end at c.loop-k.invariant.1;
     }

@@ -1,11 +1,8 @@
 -- `count::count_ones` meets its contract. The loop's invariant: the sum counts the done bits of the first k rows.
 -- Assumes nothing.
-use Rattle.grammar.proofs.Basics.{◌≡◌, ◌∙◌, sym, ap, refl, List, ℕ, ◌<◌, ◌≤◌, ◌+◌, ◌-◌, ◌*◌, arith}
+use Rattle.grammar.proofs.Basics.{◌≡◌, ◌≤◌, ◌-◌, ◌*◌}
 use Rattle.grammar.specs.Counting.{count}
-use Rattle.grammar.proofs.Counting.{count_cong, count_apart, count_bound}
-use lib.Count.{ones, ones-le}
-use Rattle.bit_machine.specs.BitTable.{bit_of, bit_at, done_half, done_bits}
-use Rattle.bit_machine.proofs.BitLaws.{ones_counted}
+use Rattle.bit_machine.specs.BitTable.{bit_at, done_half}
 use Rattle.bits.proofs.count.count_ones.Given as goal
 
 abbrev pub invariant-loop-k : goal.invariant-loop-k

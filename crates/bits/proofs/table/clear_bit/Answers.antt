@@ -7,6 +7,6 @@ pub returns : goal.returns
 returns c =
     record {
       changed =
-    row_bit_set c.row.result c.row.ensures.bits (λ j l. bit_after_clear 32 _ _ j
-    (omega arith) l) c.write_row.ensures.written;
+          row_bit_set c.row.result c.row.ensures.bits (λ j l. bit_after_clear 32 _ _ j
+          (omega arith) l) c.write_row.ensures.written;
     }

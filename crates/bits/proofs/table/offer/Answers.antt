@@ -17,9 +17,9 @@ returns-then-has_bit-2 c = let e = not_absent_pending _ _ c.requires.variable.0 
 
 pub make_pending-requires : goal.make_pending-requires
 make_pending-requires c = record {
-      within = omega (arith, c.requires);
-      notDone = done_bit _ _ c.requires.variable.0 ∙ sym c.has_bit.ensures.bit ∙ c.if-has_bit.false;
-    }
+  within = omega (arith, c.requires);
+  notDone = done_bit _ _ c.requires.variable.0 ∙ sym c.has_bit.ensures.bit ∙ c.if-has_bit.false;
+}
 
 pub returns : goal.returns
 unfolding add_offer

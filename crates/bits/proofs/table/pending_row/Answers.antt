@@ -8,7 +8,7 @@ pub returns : goal.returns
 returns c =
     record {
       pending =
-    λ j l. bit_and_lem _ _ j
-    ∙ ap₂ ◌&&◌ (c.row.ensures.bits j l) (bit_not 32 _ j (omega arith) l ∙ ap not (c.row-2.ensures.bits j l))
-    ∙ sym (pending_bits _ _ (omega arith));
+          λ j l. bit_and_lem _ _ j
+          ∙ ap₂ ◌&&◌ (c.row.ensures.bits j l) (bit_not 32 _ j (omega arith) l ∙ ap not (c.row-2.ensures.bits j l))
+          ∙ sym (pending_bits _ _ (omega arith));
     }

@@ -16,16 +16,16 @@ row_place bits half k j =
 pub returns : goal.returns
 returns c =
     record {
-      bits = λ j l. 
-    let bits = c.args.bits.now in
-    let at = c.args.half * half_size + c.args.k * 4 in
-    let first : at ≡ at + 0 = omega arith in
-    word_bit (λ i. get_or bits (at + i) 0) _ _ _ _
-    (λ i. omega (arith, c.shared_slice_known-1.given (at + i)))
-    (c.wide.ensures.same ∙ ap (λ (i : ℕ). get_or bits i 0) first)
-    c.wide-2.ensures.same
-    c.wide-3.ensures.same
-    c.wide-4.ensures.same
-    j l
-    ∙ row_place bits c.args.half c.args.k j;
+      bits = λ j l.
+          let bits = c.args.bits.now in
+          let at = c.args.half * half_size + c.args.k * 4 in
+          let first : at ≡ at + 0 = omega arith in
+          word_bit (λ i. get_or bits (at + i) 0) _ _ _ _
+          (λ i. omega (arith, c.shared_slice_known-1.given (at + i)))
+          (c.wide.ensures.same ∙ ap (λ (i : ℕ). get_or bits i 0) first)
+          c.wide-2.ensures.same
+          c.wide-3.ensures.same
+          c.wide-4.ensures.same
+          j l
+          ∙ row_place bits c.args.half c.args.k j;
     }

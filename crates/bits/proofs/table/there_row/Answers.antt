@@ -8,6 +8,6 @@ pub returns : goal.returns
 returns c =
     record {
       there =
-    λ j l. bit_or_lem _ _ j ∙ ap₂ ◌||◌ (c.row.ensures.bits j l) (c.row-2.ensures.bits j l) ∙ sym (there_bits _ _
-    (omega arith));
+          λ j l. bit_or_lem _ _ j ∙ ap₂ ◌||◌ (c.row.ensures.bits j l) (c.row-2.ensures.bits j l) ∙ sym (there_bits _ _
+          (omega arith));
     }

@@ -16,9 +16,9 @@ pub returns : goal.returns
 returns c =
     record {
       written =
-    row_written
-    (four_written _ _ _ _ _ _ _ (omega (arith, c.requires.within)) (omega (arith, c.requires.within))
-    c.narrow.ensures.low c.narrow-2.ensures.low c.narrow-3.ensures.low
-    c.narrow-4.ensures.low)
-    (omega (arith, c.requires.within));
+          row_written
+          (four_written _ _ _ _ _ _ _ (omega (arith, c.requires.within)) (omega (arith, c.requires.within))
+          c.narrow.ensures.low c.narrow-2.ensures.low c.narrow-3.ensures.low
+          c.narrow-4.ensures.low)
+          (omega (arith, c.requires.within));
     }
