@@ -13,20 +13,20 @@ pub returns-then-rule-eq85 : goal.returns-then-rule-eq85
 returns-then-rule-eq85 c =
     record {
       says = rw (
-      body_all_lem,
-      ne_eqb _ _ c.if-rule-eq69.false,
-      eq-eqb _ _ c.if-flags-rule-ne1.false,
-      eq-eqb _ _ c.if-rule-eq85.true,
-    );
+        body_all_lem,
+        ne_eqb _ _ c.if-rule-eq69.false,
+        eq-eqb _ _ c.if-flags-rule-ne1.false,
+        eq-eqb _ _ c.if-rule-eq85.true,
+      );
     }
 
 pub returns : goal.returns
 returns c =
     record {
       says = rw (
-      body_all_lem,
-      ne_eqb _ _ c.if-rule-eq69.false,
-      eq-eqb _ _ c.if-flags-rule-ne1.false,
-      ne_eqb _ _ c.if-rule-eq85.false,
-    );
+        body_all_lem,
+        ne_eqb _ _ c.if-rule-eq69.false,
+        eq-eqb _ _ c.if-flags-rule-ne1.false,
+        ne_eqb _ _ c.if-rule-eq85.false,
+      );
     }

@@ -6,14 +6,14 @@ use Rattle.symbol_flags.proofs.flags.flag_one.Goals as goal
 
 pub raise-requires : goal.raise-requires
 raise-requires c = record {
-      symbol = c.requires.symbol;
-      flags = flags_bits zeros_held;
-    }
+  symbol = c.requires.symbol;
+  flags = flags_bits zeros_held;
+}
 
 pub returns : goal.returns
 returns c =
     record {
       flags =
-    flags_alike (c.raise.ensures.raised (λ _. false) zeros_held).flags
-    (λ X _. and_comm c.args.test (eqb c.args.symbol X));
+          flags_alike (c.raise.ensures.raised (λ _. false) zeros_held).flags
+          (λ X _. and_comm c.args.test (eqb c.args.symbol X));
     }

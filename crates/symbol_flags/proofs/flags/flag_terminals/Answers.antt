@@ -1,4 +1,4 @@
-use Rattle.grammar.proofs.Basics.{◌≡◌, refl, ◌∙◌, ap, ◌≤◌, ◌-◌, arith, length, replicate}
+use Rattle.grammar.proofs.Basics.{◌≡◌, refl, ◌∙◌, ap, arith, length, replicate}
 use Rattle.grammar.specs.Counting.{one_if_lem}
 use Rattle.grammar.specs.Symbol.{is_terminal_lem}
 use Rattle.job.specs.Written.{written}
@@ -27,6 +27,6 @@ pub returns : goal.returns
 returns c =
     record {
       flags =
-    let e : c.loop-x.x ≡ 64 = omega arith in
-    written_flags (replicate 64 0) refl (rw e at c.loop-x.invariant.1);
+          let e : c.loop-x.x ≡ 64 = omega arith in
+          written_flags (replicate 64 0) refl (rw e at c.loop-x.invariant.1);
     }

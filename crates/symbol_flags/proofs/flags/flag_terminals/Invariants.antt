@@ -1,10 +1,8 @@
 -- `usefulness::flags::flag_terminals` meets its contract: the first x flags are written. Assumes nothing.
-use Rattle.grammar.proofs.Basics.{◌≡◌, refl, ◌∙◌, ap, ◌≤◌, ◌-◌, arith, length, replicate}
+use Rattle.grammar.proofs.Basics.{◌≡◌, ◌≤◌, ◌-◌, replicate}
 use Rattle.grammar.specs.Counting.{one_if_lem}
 use Rattle.grammar.specs.Symbol.{is_terminal_lem}
 use Rattle.job.specs.Written.{written}
-use Rattle.job.proofs.Filling.{written_long, written_more}
-use Rattle.usefulness.proofs.Raising.{written_flags}
 use Rattle.symbol_flags.proofs.flags.flag_terminals.Given as goal
 
 abbrev pub invariant-loop-x : goal.invariant-loop-x

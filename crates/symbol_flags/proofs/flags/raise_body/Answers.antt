@@ -40,15 +40,15 @@ pub returns-then-rule-eq85 : goal.returns-then-rule-eq85
 returns-then-rule-eq85 c =
     record {
       raised = λ s held.
-    let a = c.args in
-    of_unit a.rule a.test (c.raise-second.ensures.raised s held) c.if-rule-eq85.true;
+          let a = c.args in
+          of_unit a.rule a.test (c.raise-second.ensures.raised s held) c.if-rule-eq85.true;
     }
 
 pub raise-third-requires : goal.raise-third-requires
 raise-third-requires c = record {
-      symbol = c.requires.rule.third;
-      flags = flags_bits (c.raise-second.ensures.raised (flagged c.args.flags.now) c.requires.flags).flags;
-    }
+  symbol = c.requires.rule.third;
+  flags = flags_bits (c.raise-second.ensures.raised (flagged c.args.flags.now) c.requires.flags).flags;
+}
 
 pub overflow_add-result : goal.overflow_add-result
 overflow_add-result c =
@@ -59,8 +59,8 @@ pub returns : goal.returns
 returns c =
     record {
       raised = λ s held.
-    let a = c.args in
-    let first = c.raise-second.ensures.raised s held in
-    of_pair a.rule a.test first c.if-rule-eq69.false c.if-rule-eq85.false
-    (c.raise-third.ensures.raised _ first.flags);
+          let a = c.args in
+          let first = c.raise-second.ensures.raised s held in
+          of_pair a.rule a.test first c.if-rule-eq69.false c.if-rule-eq85.false
+          (c.raise-third.ensures.raised _ first.flags);
     }

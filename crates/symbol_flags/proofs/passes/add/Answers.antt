@@ -13,12 +13,12 @@ unfolding round any_rule
 returns c =
     record {
       raised = λ s held.
-    let below = from_below c.args.rule c.requires.rule in
-    raised_alike (c.raise_added.ensures.raised s held)
-    (λ X _.
-    rw (
-      c.is_ready-test.ensures.says,
-      ready_same (flags_test held) c.args.direction (rule_from c.args.rule) below,
-      or-false,
-    ));
+          let below = from_below c.args.rule c.requires.rule in
+          raised_alike (c.raise_added.ensures.raised s held)
+          (λ X _.
+          rw (
+            c.is_ready-test.ensures.says,
+            ready_same (flags_test held) c.args.direction (rule_from c.args.rule) below,
+            or-false,
+          ));
     }

@@ -1,12 +1,10 @@
 -- `usefulness::passes::grow` meets its contract: the flags lie between the set and what it grows to; each pass that
 -- goes on adds to them. Assumes nothing.
-use Rattle.grammar.proofs.Basics.{Bool, ℕ, ◌-◌, arith}
+use Rattle.grammar.proofs.Basics.{Bool, ℕ, ◌-◌}
 use Rattle.grammar.specs.Counting.{count}
 use Rattle.job.specs.Inside.Keys.{rules_of_keys}
 use Rattle.usefulness.specs.Inside.Flags.{Flags, flagged, Bits}
-use Rattle.usefulness.proofs.Bodies.{keys_below}
-use Rattle.usefulness.proofs.Raising.{flags_bits, flags_count, raised_few}
-use Rattle.usefulness.proofs.InPlace.{PartGrown, part_grown_none, part_grown_more, part_grown_end}
+use Rattle.usefulness.proofs.InPlace.{PartGrown}
 use Rattle.symbol_flags.proofs.passes.grow.Given as goal
 
 abbrev pub invariant-loop-direction : goal.invariant-loop-direction

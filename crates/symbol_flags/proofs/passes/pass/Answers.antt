@@ -1,8 +1,6 @@
-use Rattle.grammar.proofs.Basics.{Bool, ℕ, ◌≤◌, ◌-◌, arith, length, get_or, take}
+use Rattle.grammar.proofs.Basics.{arith, get_or}
 use lib.Seq.{take_all}
-use Rattle.job.specs.Inside.Keys.{rules_of_keys}
 use Rattle.job.proofs.KeyRules.{read_rule, read_fits, rules_more}
-use Rattle.usefulness.specs.Inside.Flags.{Flags, Raised}
 use Rattle.usefulness.specs.Inside.Passes.{in_place}
 use Rattle.usefulness.proofs.InPlace.{in_place_more}
 use Rattle.usefulness.proofs.Raising.{flags_bits, raised_none, raised_then, raised_few}
@@ -14,9 +12,9 @@ loop-k-init c = (omega arith, λ s held. raised_none held)
 
 pub add-new-requires : goal.add-new-requires
 add-new-requires c = record {
-      rule = read_fits _ c.unpack-rule.ensures.rule (c.requires.rules.fit _ c.loop-k-test.true);
-      flags = flags_bits (c.loop-k.invariant.1 _ c.requires.flags).flags;
-    }
+  rule = read_fits _ c.unpack-rule.ensures.rule (c.requires.rules.fit _ c.loop-k-test.true);
+  flags = flags_bits (c.loop-k.invariant.1 _ c.requires.flags).flags;
+}
 
 pub overflow_add-new : goal.overflow_add-new
 overflow_add-new c =
@@ -39,6 +37,6 @@ pub returns : goal.returns
 returns c =
     record {
       raised =
-    let keys = c.args.keys.now in
-    rw (take_all c.loop-k.k keys (omega arith)) at c.loop-k.invariant.1;
+          let keys = c.args.keys.now in
+          rw (take_all c.loop-k.k keys (omega arith)) at c.loop-k.invariant.1;
     }

@@ -1,13 +1,9 @@
 -- `usefulness::passes::pass` meets its contract: the rules of the first k keys have added what they add. Assumes
 -- nothing.
-use Rattle.grammar.proofs.Basics.{Bool, ℕ, ◌≤◌, ◌-◌, arith, length, get_or, take}
-use lib.Seq.{take_all}
+use Rattle.grammar.proofs.Basics.{Bool, ℕ, ◌≤◌, ◌-◌, length, take}
 use Rattle.job.specs.Inside.Keys.{rules_of_keys}
-use Rattle.job.proofs.KeyRules.{read_rule, read_fits, rules_more}
 use Rattle.usefulness.specs.Inside.Flags.{Flags, Raised}
 use Rattle.usefulness.specs.Inside.Passes.{in_place}
-use Rattle.usefulness.proofs.InPlace.{in_place_more}
-use Rattle.usefulness.proofs.Raising.{flags_bits, raised_none, raised_then, raised_few}
 use Rattle.symbol_flags.proofs.passes.pass.Given as goal
 
 abbrev pub invariant-loop-k : goal.invariant-loop-k

@@ -1,10 +1,9 @@
-use Rattle.grammar.proofs.Basics.{◌≡◌, refl, ◌∙◌, ◌≤◌, ◌-◌, arith, length, take}
+use Rattle.grammar.proofs.Basics.{refl, ◌∙◌, arith}
 use lib.Seq.{take_all}
 use Rattle.job.specs.Inside.Keys.{rules_of_keys}
 use Rattle.job.proofs.KeyRules.{rules_more}
 use Rattle.usefulness.specs.Sets.{within}
 use Rattle.usefulness.specs.Inside.Flags.{flagged}
-use Rattle.usefulness.specs.Inside.Kept.{Kept}
 use Rattle.usefulness.proofs.Tests.{within_append}
 use Rattle.usefulness.proofs.Bodies.{keys_below}
 use Rattle.usefulness.proofs.Raising.{flags_test}

@@ -1,16 +1,10 @@
 -- `usefulness::rules::keep_rules` meets its contract: of the rules of the first k keys those that stay are kept.
 -- Assumes nothing.
-use Rattle.grammar.proofs.Basics.{◌≡◌, refl, ◌∙◌, ◌≤◌, ◌-◌, arith, length, take}
-use lib.Seq.{take_all}
+use Rattle.grammar.proofs.Basics.{◌≡◌, ◌≤◌, ◌-◌, length, take}
 use Rattle.job.specs.Inside.Keys.{rules_of_keys}
-use Rattle.job.proofs.KeyRules.{rules_more}
 use Rattle.usefulness.specs.Sets.{within}
 use Rattle.usefulness.specs.Inside.Flags.{flagged}
 use Rattle.usefulness.specs.Inside.Kept.{Kept}
-use Rattle.usefulness.proofs.Tests.{within_append}
-use Rattle.usefulness.proofs.Bodies.{keys_below}
-use Rattle.usefulness.proofs.Raising.{flags_test}
-use Rattle.usefulness.proofs.KeptKeys.{within_same}
 use Rattle.symbol_flags.proofs.rules.keep_rules.Given as goal
 
 abbrev pub invariant-loop-k : goal.invariant-loop-k

@@ -9,15 +9,15 @@ flag_one-requires c = record { symbol = c.requires.symbol }
 
 pub grow-requires : goal.grow-requires
 grow-requires c = record {
-      rules = c.requires.rules;
-      flags = flags_bits c.flag_one.ensures.flags;
-    }
+  rules = c.requires.rules;
+  flags = flags_bits c.flag_one.ensures.flags;
+}
 
 pub returns : goal.returns
 unfolding leads
 returns c =
     record {
       flags =
-    let Z = c.args.symbol in
-    c.grow.ensures.grown (λ X. eqb Z X) (flags_alike c.flag_one.ensures.flags (λ X _. and-true (eqb Z X)));
+          let Z = c.args.symbol in
+          c.grow.ensures.grown (λ X. eqb Z X) (flags_alike c.flag_one.ensures.flags (λ X _. and-true (eqb Z X)));
     }

@@ -6,9 +6,9 @@ use Rattle.symbol_flags.proofs.symbols.productive_symbols.Goals as goal
 
 pub grow-requires : goal.grow-requires
 grow-requires c = record {
-      rules = c.requires.rules;
-      flags = flags_bits c.flag_terminals.ensures.flags;
-    }
+  rules = c.requires.rules;
+  flags = flags_bits c.flag_terminals.ensures.flags;
+}
 
 pub returns : goal.returns
 unfolding productive

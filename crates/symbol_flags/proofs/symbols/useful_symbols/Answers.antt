@@ -1,6 +1,6 @@
 -- `usefulness::symbols::useful_symbols` meets its contract: by the rules whose symbols are all productive, the start
 -- symbol, if it is productive, grows downwards. Assumes nothing.
-use Rattle.grammar.proofs.Basics.{◌∙◌, ap, Bool, ◌&&◌, List, ℕ, ◌<◌, arith, eqb, eqb-true, cases}
+use Rattle.grammar.proofs.Basics.{◌∙◌, ap, Bool, ◌&&◌, List, ℕ, ◌<◌, eqb, eqb-true, cases}
 use native.Mathlib.Nat.{sub-zero}
 use Rattle.usefulness.specs.Usefulness.{useful}
 use Rattle.usefulness.specs.Inside.Flags.{Flags, flagged}
@@ -17,16 +17,16 @@ started S {set} {known} l k held =
 
 pub grow-requires : goal.grow-requires
 grow-requires c = record {
-      rules = kept_lent c.keep_rules-m.ensures.kept;
-      flags = flags_bits c.flag_one.ensures.flags;
-    }
+  rules = kept_lent c.keep_rules-m.ensures.kept;
+  flags = flags_bits c.flag_one.ensures.flags;
+}
 
 pub returns : goal.returns
 unfolding useful
 returns c =
     record {
       flags =
-    let m = c.keep_rules-m.result in
-    rw (← c.keep_rules-m.ensures.rules _ c.requires.productive, ← sub-zero m)
-    (c.grow.ensures.grown _ (started c.args.start c.requires.start c.requires.productive c.flag_one.ensures.flags));
+          let m = c.keep_rules-m.result in
+          rw (← c.keep_rules-m.ensures.rules _ c.requires.productive, ← sub-zero m)
+          (c.grow.ensures.grown _ (started c.args.start c.requires.start c.requires.productive c.flag_one.ensures.flags));
     }
