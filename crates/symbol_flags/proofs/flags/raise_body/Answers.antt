@@ -1,7 +1,7 @@
 -- `usefulness::flags::raise_body` meets its contract: the symbols of the body are raised one after the other. Assumes
 -- nothing.
 use Rattle.grammar.proofs.Basics.{◌≡◌, Bool, ◌&&◌, ◌||◌, or-false, or_assoc, and-false, List, ℕ, ◌+◌, arith, eqb}
-use Rattle.grammar.proofs.Basics.{ne_eqb, needs}
+use Rattle.grammar.proofs.Basics.{ne_eqb}
 use mathlib.Core.Bool.{and-or_distrib_left}
 use Rattle.grammar.specs.Rule.{body}
 use Rattle.job.specs.declared.RuleFields as declared
@@ -11,8 +11,7 @@ use Rattle.usefulness.specs.Sets.{stands_in}
 use Rattle.usefulness.specs.Inside.Flags.{Flags, flagged, Raised}
 use Rattle.usefulness.proofs.Raising.{flags_bits, raised_alike, raised_none, raised_then, raised_few}
 use Rattle.usefulness.proofs.Bodies.{body_any_lem}
-use Rattle.symbol_flags.proofs.flags.raise_body.Statement.{statement}
-use Rattle.symbol_flags.proofs.flags.raise_body.Tie as tie
+use Rattle.symbol_flags.proofs.flags.raise_body.Goals as goal
 
 -- the symbols of a body raised one after the other
 abbrev with_body : declared.RuleFields → Bool → (ℕ → Bool) → ℕ → Bool
@@ -34,37 +33,34 @@ module _ (r : declared.RuleFields) (test : Bool) {s : ℕ → Bool} where
         raised_alike (raised_then first then)
         (λ X _. simp (body_any_lem, ne_eqb _ _ d, ne_eqb _ _ e, and-or_distrib_left, or_assoc))
 
-returns-2 : tie.Need-returns-2
-returns-2 c = λ s held.
-    let r = c.before.before in
-    let a = r.before.before.before.before.args in
-    of_unit a.rule a.test (r.raise.ensures s held) c.if2.true
+pub returns-then-rule-eq69 : goal.returns-then-rule-eq69
+returns-then-rule-eq69 c = record { raised = λ s held. let a = c.args in of_empty a.rule a.test c.if-rule-eq69.true held }
 
-returns-3 : tie.Need-returns-3
-returns-3 c = λ s held.
-    let e = c.before.before in
-    let r = e.before.before in
-    let a = r.before.before.before.before.args in
-    let first = r.raise.ensures s held in
-    of_pair a.rule a.test first r.before.before.if1.false e.if2.false
-    (c.raise2.ensures _ first.flags)
+pub returns-then-rule-eq85 : goal.returns-then-rule-eq85
+returns-then-rule-eq85 c =
+    record {
+      raised = λ s held.
+          let a = c.args in
+          of_unit a.rule a.test (c.raise-second.ensures.raised s held) c.if-rule-eq85.true;
+    }
 
-raise_requires_2 : tie.Need-raise-requires-2
-raise_requires_2 c κs =
-    let r = c.before.before.before in
-    let b = r.before.before.before.before in
-    (b.requires.0.third, flags_bits (r.raise.ensures (flagged b.args.flags.now) b.requires.1).flags)
+pub raise-third-requires : goal.raise-third-requires
+raise-third-requires c = record {
+  symbol = c.requires.rule.third;
+  flags = flags_bits (c.raise-second.ensures.raised (flagged c.args.flags.now) c.requires.flags).flags;
+}
 
-add_result : tie.Need-overflow-add-result
-add_result c =
-    let r = c.before.before.before.before in
-    let b = r.before.before.before.before in
-    let first = r.raise.ensures (flagged b.args.flags.now) b.requires.1 in
-    omega (arith, raised_few first, raised_few (c.raise2.ensures _ first.flags))
+pub overflow_add-result : goal.overflow_add-result
+overflow_add-result c =
+    let first = c.raise-second.ensures.raised (flagged c.args.flags.now) c.requires.flags in
+    omega (arith, raised_few first, raised_few (c.raise-third.ensures.raised _ first.flags))
 
-pub raise_body_spec : {M : Type 1} → statement M
-raise_body_spec =
-    tie.close
-    (tie.spec
-    (λ c s held. let a = c.before.before.args in of_empty a.rule a.test c.if1.true held)
-    (λ c κs. search needs) returns-2 raise_requires_2 add_result returns-3)
+pub returns : goal.returns
+returns c =
+    record {
+      raised = λ s held.
+          let a = c.args in
+          let first = c.raise-second.ensures.raised s held in
+          of_pair a.rule a.test first c.if-rule-eq69.false c.if-rule-eq85.false
+          (c.raise-third.ensures.raised _ first.flags);
+    }
