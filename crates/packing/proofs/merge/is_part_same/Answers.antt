@@ -1,5 +1,5 @@
 -- `merge::is_part_same` meets its contract: the part is the same where the bytes of both halves are. Assumes nothing.
-use Rattle.grammar.proofs.Basics.{false≢true, arith, length-take, not-false}
+use Rattle.grammar.proofs.Basics.{false≢true, arith, length-take}
 use lib.ListN.{length-drop}
 use Rattle.packing.proofs.Merged.{part_same}
 use Rattle.packing.proofs.merge.is_part_same.Goals as goal

@@ -1,8 +1,8 @@
 -- `pack::row_words` meets its contract. The loop's invariant: the first j bits of each word are what the bytes say.
 -- Assumes nothing.
-use Rattle.grammar.proofs.Basics.{◌≡◌, List, Bool, ℕ, ◌≤◌, ◌+◌, ◌-◌, ◌*◌, arith, get_or}
+use Rattle.grammar.proofs.Basics.{List, Bool, ℕ, ◌≤◌, ◌+◌, ◌-◌, ◌*◌, get_or}
 use Rattle.machine.specs.Table.{is_pending_lem, is_done_lem}
-use Rattle.bit_machine.proofs.StateWords.{FirstBits, first_bits_none, first_bits_more, first_bits_all}
+use Rattle.bit_machine.proofs.StateWords.{FirstBits}
 use Rattle.packing.proofs.pack.row_words.Given as goal
 
 -- a test of the bytes of a row
