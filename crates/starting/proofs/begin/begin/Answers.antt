@@ -1,6 +1,5 @@
 -- `begin::begin` meets its contract: what the calls leave, one after the other, says the start of the job, and no
 -- place has both bits. Assumes nothing.
-use Rattle.grammar.proofs.Basics.{rules}
 use Rattle.grammar.proofs.Basics.{◌≡◌, ◌∙◌, ap, ap₂, false, List, ℕ, ◌<◌, arith, length, get_or}
 use Rattle.job.specs.Written.{cleared}
 use Rattle.job.specs.Job.{Job}
@@ -33,18 +32,18 @@ begun_bits J bits rs bits' rs' kept below e =
 
 pub give_all-requires : goal.give_all-requires
 give_all-requires c = record {
-      long = (omega arith, omega arith);
-      fit = (records_fit _ c.requires.able.2, rw c.clear_front.ensures.cleared (cleared_none_done c.args.bits.now));
-    }
+  long = (omega arith, omega arith);
+  fit = (records_fit _ c.requires.able.2, rw c.clear_front.ensures.cleared (cleared_none_done c.args.bits.now));
+}
 
 pub slice_bounds-loop_rules-end : goal.slice_bounds-loop_rules-end
 slice_bounds-loop_rules-end c = keys_long c.requires.able.2 _ _ c.sorted_rules-n.ensures.count c.sorted_rules-n.ensures.sorted
 
 pub loop_rules-requires : goal.loop_rules-requires
 loop_rules-requires c = let ok = c.requires.able.2 in record {
-      long = (omega arith, omega arith, few_states _ ok _ c.state_count-states.ensures.states);
-      rules = keys_lent ok _ _ c.sorted_rules-n.ensures.count c.sorted_rules-n.ensures.sorted;
-    }
+  long = (omega arith, omega arith, few_states _ ok _ c.state_count-states.ensures.states);
+  rules = keys_lent ok _ _ c.sorted_rules-n.ensures.count c.sorted_rules-n.ensures.sorted;
+}
 
 pub returns : goal.returns
 returns c = let ok = c.requires.able.2 in

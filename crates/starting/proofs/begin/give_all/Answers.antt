@@ -1,12 +1,8 @@
 use Rattle.grammar.proofs.Basics.{rules}
-use Rattle.grammar.proofs.Basics.{◌≡◌, sym, ◌-◌, arith, length}
-use Rattle.job.specs.Format.{records_of}
+use Rattle.grammar.proofs.Basics.{sym, arith}
 use Rattle.job.proofs.Records.{records_counted}
-use Rattle.machine.specs.Table.{lent_of}
-use Rattle.machine.proofs.Starts.StartWalk.{Walked, walk_begins}
-use Rattle.machine.proofs.Starts.Giving.{giving_from, giving_goes_on, giving_ends}
-use Rattle.bit_machine.specs.BitTable.{table_of_bits}
-use Rattle.bit_machine.specs.Inside.Change.{Kept, NoneDone}
+use Rattle.machine.proofs.Starts.StartWalk.{walk_begins}
+use Rattle.machine.proofs.Starts.Giving.{giving_goes_on, giving_ends}
 use Rattle.bit_machine.proofs.ByteTables.{bytes_as_long}
 use Rattle.bit_machine.proofs.Keeping.{kept_same, kept_then}
 use Rattle.starting.proofs.begin.give_all.Goals as goal
@@ -16,9 +12,9 @@ loop-i-init c = (sym (records_counted _), walk_begins _ _ _, kept_same _, c.requ
 
 pub give-requires : goal.give-requires
 give-requires c = record {
-      long = (omega (arith, c.loop-i.invariant.2.long), omega arith);
-      fits = (rw c.record_at.ensures.record (c.requires.fit.0 c.loop-i.i (omega arith)), c.loop-i.invariant.3);
-    }
+  long = (omega (arith, c.loop-i.invariant.2.long), omega arith);
+  fits = (rw c.record_at.ensures.record (c.requires.fit.0 c.loop-i.i (omega arith)), c.loop-i.invariant.3);
+}
 
 pub loop-i-preserved : goal.loop-i-preserved
 loop-i-preserved c =
@@ -33,6 +29,6 @@ loop-i-preserved c =
 
 pub returns : goal.returns
 returns c = let (counted, walked, kept, none) = c.loop-i.invariant in record {
-      given = giving_ends _ _ _ _ _ counted walked (omega arith);
-      kept = kept;
-    }
+  given = giving_ends _ _ _ _ _ counted walked (omega arith);
+  kept = kept;
+}

@@ -1,15 +1,12 @@
 -- `begin::give_all` meets its contract. The loop's invariant: what the records passed so far gave, and what the others
 -- are still to give, is what all give, and no place is done. Assumes nothing.
-use Rattle.grammar.proofs.Basics.{◌≡◌, sym, ◌-◌, arith, length}
+use Rattle.grammar.proofs.Basics.{◌≡◌, ◌-◌, length}
 use Rattle.job.specs.Format.{records_of}
-use Rattle.job.proofs.Records.{records_counted}
 use Rattle.machine.specs.Table.{lent_of}
-use Rattle.machine.proofs.Starts.StartWalk.{Walked, walk_begins}
-use Rattle.machine.proofs.Starts.Giving.{giving_from, giving_goes_on, giving_ends}
+use Rattle.machine.proofs.Starts.StartWalk.{Walked}
+use Rattle.machine.proofs.Starts.Giving.{giving_from}
 use Rattle.bit_machine.specs.BitTable.{table_of_bits}
 use Rattle.bit_machine.specs.Inside.Change.{Kept, NoneDone}
-use Rattle.bit_machine.proofs.ByteTables.{bytes_as_long}
-use Rattle.bit_machine.proofs.Keeping.{kept_same, kept_then}
 use Rattle.starting.proofs.begin.give_all.Given as goal
 
 abbrev pub invariant-loop-i : goal.invariant-loop-i

@@ -1,9 +1,6 @@
 use Rattle.grammar.proofs.Basics.{rules}
-use Rattle.grammar.proofs.Basics.{◌-◌, arith}
-use Rattle.machine.specs.Table.{lent_of}
-use Rattle.machine.proofs.Starts.Looping.{Looped, loop-place, no_loop, looped_begins, looped_goes_on, looped_ends}
-use Rattle.bit_machine.specs.BitTable.{table_of_bits}
-use Rattle.bit_machine.specs.Inside.Change.{Kept}
+use Rattle.grammar.proofs.Basics.{arith}
+use Rattle.machine.proofs.Starts.Looping.{loop-place, no_loop, looped_begins, looped_goes_on, looped_ends}
 use Rattle.bit_machine.proofs.ByteTables.{bytes_as_long}
 use Rattle.bit_machine.proofs.Keeping.{kept_same, kept_then}
 use Rattle.starting.proofs.begin.loop_all.Goals as goal
@@ -19,10 +16,10 @@ reason_place-requires c = record { variable = search (loop-place, rules) }
 
 pub offer-requires : goal.offer-requires
 offer-requires c = record {
-      long = (omega (arith, c.loop-q.invariant.1.long), omega arith);
-      variable = search (loop-place, rules);
-      beside = search rules;
-    }
+  long = (omega (arith, c.loop-q.invariant.1.long), omega arith);
+  variable = search (loop-place, rules);
+  beside = search rules;
+}
 
 pub loop-q-preserved : goal.loop-q-preserved
 loop-q-preserved c =
@@ -33,6 +30,6 @@ loop-q-preserved c =
 
 pub returns : goal.returns
 returns c = let (looped, kept) = c.loop-q.invariant in record {
-      looped = looped_ends _ _ _ _ _ c.unpack-rule.ensures.rule _ _ c.if-rule-ne69.false (omega arith) looped;
-      kept = kept;
-    }
+  looped = looped_ends _ _ _ _ _ c.unpack-rule.ensures.rule _ _ c.if-rule-ne69.false (omega arith) looped;
+  kept = kept;
+}

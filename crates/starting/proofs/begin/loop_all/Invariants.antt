@@ -1,12 +1,10 @@
 -- `begin::loop_all` meets its contract. The loop's invariant: the ε transitions at the states passed so far are
 -- written. Assumes nothing.
-use Rattle.grammar.proofs.Basics.{◌-◌, arith}
+use Rattle.grammar.proofs.Basics.{◌-◌}
 use Rattle.machine.specs.Table.{lent_of}
-use Rattle.machine.proofs.Starts.Looping.{Looped, loop-place, no_loop, looped_begins, looped_goes_on, looped_ends}
+use Rattle.machine.proofs.Starts.Looping.{Looped}
 use Rattle.bit_machine.specs.BitTable.{table_of_bits}
 use Rattle.bit_machine.specs.Inside.Change.{Kept}
-use Rattle.bit_machine.proofs.ByteTables.{bytes_as_long}
-use Rattle.bit_machine.proofs.Keeping.{kept_same, kept_then}
 use Rattle.starting.proofs.begin.loop_all.Given as goal
 
 abbrev pub invariant-loop-q : goal.invariant-loop-q

@@ -1,12 +1,7 @@
 use Rattle.grammar.proofs.Basics.{rules}
-use Rattle.grammar.proofs.Basics.{◌-◌, arith, length}
-use Rattle.job.specs.Inside.Keys.{rules_of_keys}
-use Rattle.machine.specs.Table.{lent_of}
-use Rattle.machine.specs.Inside.StartParts.{looping_all}
-use Rattle.machine.proofs.Starts.StartWalk.{Walked, walk_begins}
+use Rattle.grammar.proofs.Basics.{arith}
+use Rattle.machine.proofs.Starts.StartWalk.{walk_begins}
 use Rattle.machine.proofs.Starts.Looping.{rules_go_on, rules_end}
-use Rattle.bit_machine.specs.BitTable.{table_of_bits}
-use Rattle.bit_machine.specs.Inside.Change.{Kept}
 use Rattle.bit_machine.proofs.ByteTables.{bytes_as_long}
 use Rattle.bit_machine.proofs.Keeping.{kept_same, kept_then}
 use Rattle.starting.proofs.begin.loop_rules.Goals as goal
@@ -16,9 +11,9 @@ loop-k-init c = (walk_begins _ _ _, kept_same _)
 
 pub loop_all-requires : goal.loop_all-requires
 loop_all-requires c = let p = c.requires in record {
-      long = (omega (arith, c.loop-k.invariant.1.long), omega arith);
-      fits = (p.long.2, p.rules.fit _ (omega arith), omega (arith, p.rules.few));
-    }
+  long = (omega (arith, c.loop-k.invariant.1.long), omega arith);
+  fits = (p.long.2, p.rules.fit _ (omega arith), omega (arith, p.rules.few));
+}
 
 pub loop-k-preserved : goal.loop-k-preserved
 loop-k-preserved c =
@@ -30,6 +25,6 @@ loop-k-preserved c =
 
 pub returns : goal.returns
 returns c = let (walked, kept) = c.loop-k.invariant in record {
-      looped = rules_end _ _ _ _ _ walked (omega arith);
-      kept = kept;
-    }
+  looped = rules_end _ _ _ _ _ walked (omega arith);
+  kept = kept;
+}

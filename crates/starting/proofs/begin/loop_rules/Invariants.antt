@@ -1,15 +1,12 @@
 -- `begin::loop_rules` meets its contract. The loop's invariant: what the rules passed so far wrote, and what the
 -- others are still to write, is what all write. Assumes nothing.
-use Rattle.grammar.proofs.Basics.{◌-◌, arith, length}
+use Rattle.grammar.proofs.Basics.{◌-◌, length}
 use Rattle.job.specs.Inside.Keys.{rules_of_keys}
 use Rattle.machine.specs.Table.{lent_of}
 use Rattle.machine.specs.Inside.StartParts.{looping_all}
-use Rattle.machine.proofs.Starts.StartWalk.{Walked, walk_begins}
-use Rattle.machine.proofs.Starts.Looping.{rules_go_on, rules_end}
+use Rattle.machine.proofs.Starts.StartWalk.{Walked}
 use Rattle.bit_machine.specs.BitTable.{table_of_bits}
 use Rattle.bit_machine.specs.Inside.Change.{Kept}
-use Rattle.bit_machine.proofs.ByteTables.{bytes_as_long}
-use Rattle.bit_machine.proofs.Keeping.{kept_same, kept_then}
 use Rattle.starting.proofs.begin.loop_rules.Given as goal
 
 abbrev pub invariant-loop-k : goal.invariant-loop-k
