@@ -16,7 +16,8 @@ pub merge_row-requires : goal.merge_row-requires
 merge_row-requires c =
     record {
       within =
-          (omega (arith, c.requires.within), c.requires.within.1, c.requires.within.2, omega (arith, c.requires.within.3, c.loop-k.invariant.2));
+          (omega (arith, c.requires.within), c.requires.within.1, c.requires.within.2,
+              omega (arith, c.requires.within.3, c.loop-k.invariant.2));
     }
 
 pub loop-k-preserved : goal.loop-k-preserved

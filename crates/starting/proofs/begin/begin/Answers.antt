@@ -37,7 +37,8 @@ give_all-requires c = record {
 }
 
 pub slice_bounds-loop_rules-end : goal.slice_bounds-loop_rules-end
-slice_bounds-loop_rules-end c = keys_long c.requires.able.2 _ _ c.sorted_rules-n.ensures.count c.sorted_rules-n.ensures.sorted
+slice_bounds-loop_rules-end c =
+    keys_long c.requires.able.2 _ _ c.sorted_rules-n.ensures.count c.sorted_rules-n.ensures.sorted
 
 pub loop_rules-requires : goal.loop_rules-requires
 loop_rules-requires c = let ok = c.requires.able.2 in record {
@@ -54,7 +55,8 @@ returns c = let ok = c.requires.able.2 in
       states = states_counted _ ok _ counted;
       written = begun_bits _ _ _ _ _ (rw clear at (kept_then _ _ _ given.kept looped.kept))
           (λ i h. omega (arith, c.slice_known-7-1.given i))
-          (begun _ ok _ counted (rules_lent ok _ _ c.sorted_rules-n.ensures.count c.sorted_rules-n.ensures.sorted) _ _ _ _ _ _
+          (begun _ ok _ counted
+              (rules_lent ok _ _ c.sorted_rules-n.ensures.count c.sorted_rules-n.ensures.sorted) _ _ _ _ _ _
           (omega (arith, bytes_length c.args.bits.now)) c.requires.able.1 (ap table_of_bits clear ∙ cleared_bytes _)
           c.clear_reasons.ensures.cleared given.given looped.looped);
     }
