@@ -1,11 +1,9 @@
-use Rattle.grammar.proofs.Basics.{◌≡◌, sym, List, ℕ, ◌<◌, ◌≤◌, ◌-◌, add-one, arith, length, get_or, take, length-take-le}
+use Rattle.grammar.proofs.Basics.{◌≡◌, sym, List, ℕ, ◌<◌, ◌≤◌, add-one, arith, length, get_or, take}
+use Rattle.grammar.proofs.Basics.{length-take-le}
 use Rattle.grammar.proofs.Basics.{get_or-take}
 use lib.ListN.{length-replicate}
-use Rattle.machine.specs.Table.{reasons_size}
-use Rattle.forms.specs.Inside.ListingParts.{pass_of, CanListAll}
-use Rattle.job.specs.Inside.Keys.{rules_of_keys}
 use Rattle.forms.proofs.Walks.{table_kept, out_kept}
-use Rattle.forms.proofs.ListAll.{Passing, pass_begins, next_done, pass_goes_on, pass_ends, may_visit}
+use Rattle.forms.proofs.ListAll.{pass_begins, next_done, pass_goes_on, pass_ends, may_visit}
 use Rattle.listing.proofs.list_all.Goals as goal
 
 -- the next place of the route
@@ -29,21 +27,26 @@ bounds-route-i c = omega (arith, c.requires.sequence.0)
 pub overflow_cast-route : goal.overflow_cast-route
 overflow_cast-route c =
     let inv = c.loop-i.invariant in
-    omega (arith, (next_done inv.2 (inside _ _ _ c.requires.sequence.1 c.loop-i-test.true) inv.3 (next _ _ c.args.route.now c.loop-i-test.true)).within)
+    omega (
+      arith,
+      (next_done inv.2 (inside _ _ _ c.requires.sequence.1 c.loop-i-test.true) inv.3
+          (next _ _ c.args.route.now c.loop-i-test.true)).within,
+    )
 
 pub visit-count-requires : goal.visit-count-requires
 visit-count-requires c =
     record {
       able =
-    let inv = c.loop-i.invariant in
-    may_visit inv.2 (inside _ _ _ c.requires.sequence.1 c.loop-i-test.true) inv.3 (next _ _ c.args.route.now c.loop-i-test.true) _ inv.1;
+          let inv = c.loop-i.invariant in
+          may_visit inv.2 (inside _ _ _ c.requires.sequence.1 c.loop-i-test.true) inv.3
+          (next _ _ c.args.route.now c.loop-i-test.true) _ inv.1;
     }
 
 pub overflow_add-i : goal.overflow_add-i
 overflow_add-i c = omega (
-      arith,
-      c.requires.sequence.0,
-    )
+  arith,
+  c.requires.sequence.0,
+)
 
 pub loop-i-preserved : goal.loop-i-preserved
 loop-i-preserved c =
@@ -51,7 +54,11 @@ loop-i-preserved c =
       omega arith,
       c.visit-count.ensures.path,
       inv.2,
-      rw (c.visit-count.ensures.pass, add-one) (pass_goes_on inv.2 (inside _ _ _ c.requires.sequence.1 c.loop-i-test.true) inv.3 (next _ _ c.args.route.now c.loop-i-test.true)),
+      rw (
+        c.visit-count.ensures.pass,
+        add-one,
+      ) (pass_goes_on inv.2 (inside _ _ _ c.requires.sequence.1 c.loop-i-test.true) inv.3
+          (next _ _ c.args.route.now c.loop-i-test.true)),
     )
 
 pub shape_of-table : goal.shape_of-table
@@ -64,9 +71,9 @@ pub returns : goal.returns
 returns c =
     record {
       listed =
-    let size = length-take-le c.args.n c.args.route.now c.requires.sequence.1 in
-    let end : c.loop-i.i ≡ length (take c.args.n c.args.route.now) =
-        omega (arith, size, c.loop-i.invariant.0, c.loop-i-test.false)
-    in
-    pass_ends c.loop-i.invariant.2 end c.loop-i.invariant.3;
+          let size = length-take-le c.args.n c.args.route.now c.requires.sequence.1 in
+          let end : c.loop-i.i ≡ length (take c.args.n c.args.route.now) =
+          omega (arith, size, c.loop-i.invariant.0, c.loop-i-test.false)
+          in
+          pass_ends c.loop-i.invariant.2 end c.loop-i.invariant.3;
     }

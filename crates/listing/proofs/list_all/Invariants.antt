@@ -1,13 +1,10 @@
 -- The invariant: the pass is on the way to the whole listing, with the places of the route from the i-th on left to
 -- visit. Assumes nothing.
-use Rattle.grammar.proofs.Basics.{◌≡◌, sym, List, ℕ, ◌<◌, ◌≤◌, ◌-◌, add-one, arith, length, get_or, take, length-take-le}
-use Rattle.grammar.proofs.Basics.{get_or-take}
-use lib.ListN.{length-replicate}
+use Rattle.grammar.proofs.Basics.{◌≡◌, ◌≤◌, ◌-◌, length, take}
 use Rattle.machine.specs.Table.{reasons_size}
 use Rattle.forms.specs.Inside.ListingParts.{pass_of, CanListAll}
 use Rattle.job.specs.Inside.Keys.{rules_of_keys}
-use Rattle.forms.proofs.Walks.{table_kept, out_kept}
-use Rattle.forms.proofs.ListAll.{Passing, pass_begins, next_done, pass_goes_on, pass_ends, may_visit}
+use Rattle.forms.proofs.ListAll.{Passing}
 use Rattle.listing.proofs.list_all.Given as goal
 
 abbrev pub invariant-loop-i : goal.invariant-loop-i

@@ -1,5 +1,5 @@
 -- A given reason has no rule; any other says the rule at its rank. Assumes nothing.
-use Rattle.grammar.proofs.Basics.{◌∙◌, sym, subst, ◌<◌, ◌≤◌, ◌-◌, ◌/◌, arith, length}
+use Rattle.grammar.proofs.Basics.{◌∙◌, sym, subst}
 use Rattle.forms.specs.Grounded.{ReasonFits}
 use Rattle.job.specs.Inside.Keys.{rules_of_keys}
 use Rattle.forms.proofs.ReasonLaws.{bytes_given, bytes_of_key, key_below}
@@ -24,6 +24,7 @@ pub returns : goal.returns
 returns c =
     record {
       bytes =
-    c.rule_bytes.ensures.bytes
-    ∙ bytes_of_key c.args.keys.now _ _ _ c.reason_at-reason.ensures.reason c.requires.fits.fits c.if-reason.false;
+          c.rule_bytes.ensures.bytes
+          ∙ bytes_of_key c.args.keys.now _ _ _ c.reason_at-reason.ensures.reason c.requires.fits.fits
+              c.if-reason.false;
     }

@@ -1,5 +1,5 @@
-use Rattle.grammar.proofs.Basics.{◌≡◌, ◌∙◌, ap, List, ℕ, ◌<◌, ◌≤◌, ◌-◌, arith, length}
-use Rattle.machine.specs.Table.{table_size, each}
+use Rattle.grammar.proofs.Basics.{◌≡◌, ◌∙◌, ap, List, ℕ, arith, length}
+use Rattle.machine.specs.Table.{each}
 use Rattle.machine.proofs.Tables.Each.{length_each}
 use Rattle.forms.proofs.Unmarking.{unmarked_to, unmarked_none, unmarked_next}
 use Rattle.listing.proofs.unmark.Goals as goal
@@ -30,5 +30,5 @@ pub returns : goal.returns
 returns c =
     record {
       unmarked =
-    c.loop-i.invariant.1 ∙ ap (λ n. each (unmarked_to n) 0 c.args.table.now) (omega arith);
+          c.loop-i.invariant.1 ∙ ap (λ n. each (unmarked_to n) 0 c.args.table.now) (omega arith);
     }

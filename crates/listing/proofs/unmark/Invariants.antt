@@ -1,8 +1,7 @@
 -- The invariant: the marks before i are gone, and the rest is as it was. Assumes nothing.
-use Rattle.grammar.proofs.Basics.{◌≡◌, ◌∙◌, ap, ◌<◌, ◌≤◌, ◌-◌, arith, length}
+use Rattle.grammar.proofs.Basics.{◌≡◌, ◌≤◌, ◌-◌}
 use Rattle.machine.specs.Table.{table_size, each}
-use Rattle.machine.proofs.Tables.Each.{length_each}
-use Rattle.forms.proofs.Unmarking.{unmarked_to, unmarked_none, unmarked_next}
+use Rattle.forms.proofs.Unmarking.{unmarked_to}
 use Rattle.listing.proofs.unmark.Given as goal
 
 abbrev pub invariant-loop-i : goal.invariant-loop-i

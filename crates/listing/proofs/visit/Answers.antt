@@ -1,9 +1,6 @@
-use Rattle.grammar.proofs.Basics.{◌∙◌, sym, ◌≤◌, arith, eq-eqb, ne_eqb, leb-true, leb-false}
-use Rattle.machine.specs.Table.{symbol_at}
-use Rattle.forms.specs.Inside.ListingParts.{pass_of, walking_of}
-use Rattle.job.specs.Inside.Keys.{rules_of_keys}
+use Rattle.grammar.proofs.Basics.{◌∙◌, sym, arith, eq-eqb, ne_eqb, leb-true, leb-false}
 use Rattle.forms.proofs.Walks.{table_kept, out_kept}
-use Rattle.forms.proofs.WalkMoves.{Underway, left_of, arrives, may_move, moves}
+use Rattle.forms.proofs.WalkMoves.{arrives, may_move, moves}
 use Rattle.forms.proofs.WalkStarts.{already_listed, terminal_may, terminal_shown, sets_out}
 use Rattle.listing.proofs.visit.Goals as goal
 
@@ -21,15 +18,17 @@ returns-then-table-p-eq3 c = let v = c.requires.able in
 pub list_one-requires : goal.list_one-requires
 list_one-requires c =
     let m =
-        terminal_may c.requires.able (ne_eqb _ 3 c.if-table-p-eq3.false)
-        (leb-true 32 _ (sym c.terminal_at.ensures.terminal ∙ c.if-terminal_at.true))
+    terminal_may c.requires.able (ne_eqb _ 3 c.if-table-p-eq3.false)
+    (leb-true 32 _ (sym c.terminal_at.ensures.terminal ∙ c.if-terminal_at.true))
     in
     record { fits = m.0; room = m.1 }
 
 pub returns-then-terminal_at : goal.returns-then-terminal_at
 returns-then-terminal_at c = let v = c.requires.able in
     record {
-      pass = c.list_one.ensures.listed ∙ terminal_shown v (ne_eqb _ 3 c.if-table-p-eq3.false) (leb-true 32 _ (sym c.terminal_at.ensures.terminal ∙ c.if-terminal_at.true));
+      pass = c.list_one.ensures.listed
+          ∙ terminal_shown v (ne_eqb _ 3 c.if-table-p-eq3.false)
+          (leb-true 32 _ (sym c.terminal_at.ensures.terminal ∙ c.if-terminal_at.true));
       path = v.path_full;
     }
 
@@ -45,7 +44,7 @@ pub walk_step-w-requires : goal.walk_step-w-requires
 walk_step-w-requires c =
     record {
       able =
-    may_move c.loop-w.invariant c.loop-w-test.true;
+          may_move c.loop-w.invariant c.loop-w-test.true;
     }
 
 pub loop-w-smaller : goal.loop-w-smaller
@@ -64,6 +63,6 @@ shape_of-listing c = out_kept c.loop-w.invariant.way
 
 pub returns : goal.returns
 returns c = let u = c.loop-w.invariant in record {
-      pass = arrives u (omega arith);
-      path = u.path_full;
-    }
+  pass = arrives u (omega arith);
+  path = u.path_full;
+}

@@ -1,12 +1,8 @@
 -- The invariant of the loop: the walk is underway to the whole visit; what is left of the table and the path falls.
 -- Assumes nothing.
-use Rattle.grammar.proofs.Basics.{◌∙◌, sym, ◌≤◌, arith, eq-eqb, ne_eqb, leb-true, leb-false}
-use Rattle.machine.specs.Table.{symbol_at}
 use Rattle.forms.specs.Inside.ListingParts.{pass_of, walking_of}
 use Rattle.job.specs.Inside.Keys.{rules_of_keys}
-use Rattle.forms.proofs.Walks.{table_kept, out_kept}
-use Rattle.forms.proofs.WalkMoves.{Underway, left_of, arrives, may_move, moves}
-use Rattle.forms.proofs.WalkStarts.{already_listed, terminal_may, terminal_shown, sets_out}
+use Rattle.forms.proofs.WalkMoves.{Underway, left_of}
 use Rattle.listing.proofs.visit.Given as goal
 
 abbrev pub invariant-loop-w : goal.invariant-loop-w

@@ -1,7 +1,5 @@
 -- The three returns are the three moves: the tests on the next premise are those of the definition. Assumes nothing.
-use Rattle.grammar.proofs.Basics.{◌≡◌, ◌∙◌, sym, ◌<◌, arith, leb-true, leb-false}
-use Rattle.machine.specs.Table.{table_size, symbol_at}
-use Rattle.forms.specs.Grounded.{DonePlace}
+use Rattle.grammar.proofs.Basics.{◌∙◌, sym, arith, leb-true, leb-false}
 use Rattle.forms.proofs.Moves.{may_list, lists_top, lists_terminal, goes_down, next_done}
 use Rattle.listing.proofs.walk_step.Goals as goal
 
@@ -14,7 +12,8 @@ pub returns-then-next-eq-TABLE_BYTES : goal.returns-then-next-eq-TABLE_BYTES
 returns-then-next-eq-TABLE_BYTES c =
     record {
       moved =
-    lists_top c.requires.able c.next_premise-next.ensures.next c.if-next-eq-TABLE_BYTES.true c.list_one-count.ensures.listed;
+          lists_top c.requires.able c.next_premise-next.ensures.next c.if-next-eq-TABLE_BYTES.true
+          c.list_one-count.ensures.listed;
     }
 
 pub list_one-count-requires-then-terminal_at : goal.list_one-count-requires-then-terminal_at
@@ -27,8 +26,9 @@ pub returns-then-terminal_at : goal.returns-then-terminal_at
 returns-then-terminal_at c =
     record {
       moved =
-    lists_terminal c.requires.able c.next_premise-next.ensures.next c.if-next-eq-TABLE_BYTES.false
-    (leb-true 32 _ (sym c.terminal_at.ensures.terminal ∙ c.if-terminal_at.true)) c.list_one-count-then-terminal_at.ensures.listed;
+          lists_terminal c.requires.able c.next_premise-next.ensures.next c.if-next-eq-TABLE_BYTES.false
+          (leb-true 32 _ (sym c.terminal_at.ensures.terminal ∙ c.if-terminal_at.true))
+          c.list_one-count-then-terminal_at.ensures.listed;
     }
 
 pub overflow_cast-path : goal.overflow_cast-path
@@ -39,11 +39,14 @@ overflow_cast-path c =
 pub bounds-path-depth-2 : goal.bounds-path-depth-2
 bounds-path-depth-2 c =
     let e = c.next_premise-next.ensures.next in
-    c.requires.able.deeper (rw (← e) (next_done c.requires.able c.next_premise-next.ensures.next c.if-next-eq-TABLE_BYTES.false).within) (rw (← e) (leb-false 32 _ (sym c.terminal_at.ensures.terminal ∙ c.if-terminal_at.false)))
+    c.requires.able.deeper
+    (rw (← e) (next_done c.requires.able c.next_premise-next.ensures.next c.if-next-eq-TABLE_BYTES.false).within)
+    (rw (← e) (leb-false 32 _ (sym c.terminal_at.ensures.terminal ∙ c.if-terminal_at.false)))
 
 pub returns : goal.returns
 returns c =
     record {
       moved =
-    goes_down c.requires.able c.next_premise-next.ensures.next c.if-next-eq-TABLE_BYTES.false (leb-false 32 _ (sym c.terminal_at.ensures.terminal ∙ c.if-terminal_at.false));
+          goes_down c.requires.able c.next_premise-next.ensures.next c.if-next-eq-TABLE_BYTES.false
+          (leb-false 32 _ (sym c.terminal_at.ensures.terminal ∙ c.if-terminal_at.false));
     }

@@ -31,5 +31,5 @@ pub returns : goal.returns
 returns c =
     record {
       written =
-    record_stored c.requires.fits _ c.reason_bytes-why.ensures.bytes _ _;
+          record_stored c.requires.fits _ c.reason_bytes-why.ensures.bytes _ _;
     }
