@@ -1,6 +1,5 @@
-use Rattle.grammar.proofs.Basics.{◌≡◌, ◌∙◌, ◌≤◌, ◌-◌, arith, length, length-set}
-use Rattle.bit_machine.specs.BitTable.{bit_of}
-use Rattle.forms.proofs.StateWords.{WordsFrom, words_of_end, words_before}
+use Rattle.grammar.proofs.Basics.{◌∙◌, ◌-◌, arith, length-set}
+use Rattle.forms.proofs.StateWords.{words_of_end, words_before}
 use Rattle.asking.proofs.acceptance.fill_finish.Goals as goal
 
 pub loop-i-init : goal.loop-i-init
@@ -18,7 +17,7 @@ pub leading_to-requires : goal.leading_to-requires
 leading_to-requires c =
     record {
       within =
-    (omega (arith, c.requires.fits.1.symbols (c.loop-i.i - 1) (omega arith)), c.requires.fits.0);
+          (omega (arith, c.requires.fits.1.symbols (c.loop-i.i - 1) (omega arith)), c.requires.fits.0);
     }
 
 pub loop-i-preserved : goal.loop-i-preserved

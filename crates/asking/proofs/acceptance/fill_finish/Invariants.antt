@@ -1,8 +1,8 @@
 -- `acceptance::fill_finish` meets its contract. The loop's invariant: the words of the positions from i on are right.
 -- Assumes nothing.
-use Rattle.grammar.proofs.Basics.{◌≡◌, ◌∙◌, ◌≤◌, ◌-◌, arith, length, length-set}
+use Rattle.grammar.proofs.Basics.{◌≡◌, ◌≤◌, length}
 use Rattle.bit_machine.specs.BitTable.{bit_of}
-use Rattle.forms.proofs.StateWords.{WordsFrom, words_of_end, words_before}
+use Rattle.forms.proofs.StateWords.{WordsFrom}
 use Rattle.asking.proofs.acceptance.fill_finish.Given as goal
 
 abbrev pub invariant-loop-i : goal.invariant-loop-i

@@ -1,4 +1,4 @@
-use Rattle.grammar.proofs.Basics.{◌≡◌, ◌∙◌, sym, List, ℕ, ◌+◌, ◌*◌, ◌<◌, ◌≤◌, ◌-◌, suc, arith, length, get_or, drop}
+use Rattle.grammar.proofs.Basics.{◌≡◌, ◌∙◌, sym, List, ℕ, ◌+◌, ◌*◌, ◌<◌, ◌≤◌, suc, arith, length, get_or, drop}
 use lib.Bits.{bit_and}
 use Rattle.machine.specs.Table.{is_done_lem, done_in}
 use Rattle.bit_machine.specs.BitTable.{bit_of, bit_statuses, table_of_bits}
@@ -14,7 +14,8 @@ next_state_lem : (bits form finish : List ℕ) → FinishWords (final_of form fi
     {places : List ℕ} {q at i : ℕ} →
     RouteFilled (final_of form finish) (done_in (bit_statuses bits)) form places q at i → (row r : ℕ) →
     i < length form → get_or form i 0 ≤ 63 →
-    ((j : ℕ) → j < 32 → bit_of row j ≡ is_done_lem (get_or (table_of_bits bits) ((at * 64 + get_or form i 0) * 32 + j) 0)) →
+    ((j : ℕ) → j < 32 →
+    bit_of row j ≡ is_done_lem (get_or (table_of_bits bits) ((at * 64 + get_or form i 0) * 32 + j) 0)) →
     First (bit_and row (get_or finish (i + 1) 0)) r →
     r ≡ next_state (final_of form finish) (done_in (bit_statuses bits)) (get_or form i 0) (drop (suc i) form) at
 next_state_lem bits form finish words {at = at} {i = i} filled row r l below says first =
@@ -33,25 +34,42 @@ pub overflow_add-row : goal.overflow_add-row
 overflow_add-row c = omega (arith, c.requires.fits.1.symbols c.loop-i.i (omega arith))
 
 pub done_row-requires : goal.done_row-requires
-done_row-requires c = record { within = (omega (arith, c.requires.fits.1.symbols c.loop-i.i (omega arith)), omega arith) }
+done_row-requires c =
+    record { within = (omega (arith, c.requires.fits.1.symbols c.loop-i.i (omega arith)), omega arith) }
 
 pub overflow_mul-places : goal.overflow_mul-places
 overflow_mul-places c = omega (arith, c.requires.fits.1.symbols c.loop-i.i (omega arith))
 
 pub overflow_add-places : goal.overflow_add-places
-overflow_add-places c = omega (arith, c.requires.fits.1.symbols c.loop-i.i (omega arith), (next_fits c.loop-i.invariant.1 (omega arith)
-      (next_state_lem _ _ _ c.requires.finishes.0 c.loop-i.invariant.1 _ _ (omega arith) (omega (arith, c.requires.fits.1.symbols c.loop-i.i (omega arith)))
-      c.done_row.ensures.done c.first_one-at.ensures.first)).0)
+overflow_add-places c =
+    omega (
+      arith,
+      c.requires.fits.1.symbols c.loop-i.i (omega arith),
+      (next_fits c.loop-i.invariant.1 (omega arith)
+          (next_state_lem _ _ _ c.requires.finishes.0 c.loop-i.invariant.1 _ _ (omega arith)
+          (omega (arith, c.requires.fits.1.symbols c.loop-i.i (omega arith)))
+          c.done_row.ensures.done c.first_one-at.ensures.first)).0,
+    )
 
 pub overflow_cast-places : goal.overflow_cast-places
-overflow_cast-places c = omega (arith, c.requires.fits.1.symbols c.loop-i.i (omega arith), (next_fits c.loop-i.invariant.1 (omega arith)
-      (next_state_lem _ _ _ c.requires.finishes.0 c.loop-i.invariant.1 _ _ (omega arith) (omega (arith, c.requires.fits.1.symbols c.loop-i.i (omega arith)))
-      c.done_row.ensures.done c.first_one-at.ensures.first)).0)
+overflow_cast-places c =
+    omega (
+      arith,
+      c.requires.fits.1.symbols c.loop-i.i (omega arith),
+      (next_fits c.loop-i.invariant.1 (omega arith)
+          (next_state_lem _ _ _ c.requires.finishes.0 c.loop-i.invariant.1 _ _ (omega arith)
+          (omega (arith, c.requires.fits.1.symbols c.loop-i.i (omega arith)))
+          c.done_row.ensures.done c.first_one-at.ensures.first)).0,
+    )
 
 pub loop-i-preserved : goal.loop-i-preserved
-loop-i-preserved c =
-    (omega arith, route_more c.loop-i.invariant.1 (omega arith) (next_state_lem _ _ _ c.requires.finishes.0 c.loop-i.invariant.1 _ _ (omega arith) (omega (arith, c.requires.fits.1.symbols c.loop-i.i (omega arith)))
-      c.done_row.ensures.done c.first_one-at.ensures.first) (omega arith) (omega arith))
+loop-i-preserved c = (
+  omega arith,
+  route_more c.loop-i.invariant.1 (omega arith)
+      (next_state_lem _ _ _ c.requires.finishes.0 c.loop-i.invariant.1 _ _ (omega arith)
+      (omega (arith, c.requires.fits.1.symbols c.loop-i.i (omega arith)))
+      c.done_row.ensures.done c.first_one-at.ensures.first) (omega arith) (omega arith),
+)
 
 pub returns : goal.returns
 returns c = record { route = route_whole c.loop-i.invariant.1 (omega arith) }

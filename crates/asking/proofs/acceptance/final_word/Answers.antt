@@ -1,7 +1,6 @@
-use Rattle.grammar.proofs.Basics.{◌≡◌, ◌∙◌, sym, ◌-◌, arith, length}
-use Rattle.job.specs.Format.{records_of}
+use Rattle.grammar.proofs.Basics.{sym, arith}
 use Rattle.job.proofs.Records.{records_counted}
-use Rattle.forms.proofs.FinalWord.{FinalFrom, final_none, final_more, final_all}
+use Rattle.forms.proofs.FinalWord.{final_none, final_more, final_all}
 use Rattle.asking.proofs.acceptance.final_word.Goals as goal
 
 pub loop-i-init : goal.loop-i-init

@@ -1,9 +1,8 @@
 -- `acceptance::final_word` meets its contract. The loop's invariant: the states noted, with those that the records from
 -- i on have, are all final ones. Assumes nothing.
-use Rattle.grammar.proofs.Basics.{◌≡◌, ◌∙◌, sym, ◌-◌, arith, length}
+use Rattle.grammar.proofs.Basics.{◌≡◌, ◌-◌, length}
 use Rattle.job.specs.Format.{records_of}
-use Rattle.job.proofs.Records.{records_counted}
-use Rattle.forms.proofs.FinalWord.{FinalFrom, final_none, final_more, final_all}
+use Rattle.forms.proofs.FinalWord.{FinalFrom}
 use Rattle.asking.proofs.acceptance.final_word.Given as goal
 
 abbrev pub invariant-loop-i : goal.invariant-loop-i

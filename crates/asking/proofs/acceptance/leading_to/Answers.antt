@@ -1,8 +1,5 @@
-use Rattle.grammar.proofs.Basics.{◌≡◌, ⊎_elim, ◌&&◌, Bool, List, ℕ, ◌≤◌, ◌-◌, arith}
-use Rattle.machine.specs.Table.{done_in}
-use Rattle.grammar.specs.Counting.{some}
-use Rattle.bit_machine.specs.BitTable.{bit_of, bit_statuses}
-use Rattle.bit_machine.proofs.StateWords.{FirstBits, first_bits_none, first_bits_set, first_bits_left, first_bits_all}
+use Rattle.grammar.proofs.Basics.{◌≡◌, arith}
+use Rattle.bit_machine.proofs.StateWords.{first_bits_none, first_bits_set, first_bits_left, first_bits_all}
 use Rattle.bit_machine.proofs.StateWords.{leads, leads_not}
 use Rattle.asking.proofs.acceptance.leading_to.Invariants.{leading}
 use Rattle.asking.proofs.acceptance.leading_to.Goals as goal
@@ -21,7 +18,7 @@ loop-q-preserved c =
     let test = leading c.args.bits.now c.args.symbol c.args.targets in (
       omega arith,
       elim c.if-done_row-targets-ne0.branch [
-        then-done_row-targets-ne0 w ↦
+        | then-done_row-targets-ne0 w ↦
             rw w.word-is (first_bits_set test _ h.q h.invariant.1 (omega arith)
             (leads _ h.q _ row.result _ (omega arith) (omega arith) row.ensures.done (omega arith) (omega arith)
             w.if-done_row-targets-ne0.true))
@@ -35,7 +32,7 @@ loop-q-preserved c =
 pub returns : goal.returns
 returns c =
     record {
-      word = λ q l. 
-    let end : c.loop-q.q ≡ 32 = omega arith in
-    first_bits_all _ _ (rw end at c.loop-q.invariant.1) q l;
+      word = λ q l.
+          let end : c.loop-q.q ≡ 32 = omega arith in
+          first_bits_all _ _ (rw end at c.loop-q.invariant.1) q l;
     }

@@ -1,11 +1,10 @@
 -- `acceptance::leading_to` meets its contract. The loop's invariant: the first q bits are those of the states below q.
 -- Assumes nothing.
-use Rattle.grammar.proofs.Basics.{◌≡◌, ⊎_elim, ◌&&◌, Bool, List, ℕ, ◌≤◌, ◌-◌, arith}
+use Rattle.grammar.proofs.Basics.{◌&&◌, Bool, List, ℕ, ◌≤◌, ◌-◌}
 use Rattle.machine.specs.Table.{done_in}
 use Rattle.grammar.specs.Counting.{some}
 use Rattle.bit_machine.specs.BitTable.{bit_of, bit_statuses}
-use Rattle.bit_machine.proofs.StateWords.{FirstBits, first_bits_none, first_bits_set, first_bits_left, first_bits_all}
-use Rattle.bit_machine.proofs.StateWords.{leads, leads_not}
+use Rattle.bit_machine.proofs.StateWords.{FirstBits}
 use Rattle.asking.proofs.acceptance.leading_to.Given as goal
 
 -- a done transition with the symbol leads from a state to a target

@@ -20,5 +20,5 @@ pub returns : goal.returns
 returns c =
     record {
       states =
-    noted _ c.args.r c.if-r-ne70.false c.if-r-ne0.false c.if-r-ne0-2.false (omega arith);
+          noted _ c.args.r c.if-r-ne70.false c.if-r-ne0.false c.if-r-ne0-2.false (omega arith);
     }

@@ -6,5 +6,5 @@ pub returns : goal.returns
 returns c =
     record {
       checked =
-    rw (c.call_check.ensures.checked, c.short_buffer-short.ensures.checked) at c.form_after.ensures.checked;
+          rw (c.call_check.ensures.checked, c.short_buffer-short.ensures.checked) at c.form_after.ensures.checked;
     }

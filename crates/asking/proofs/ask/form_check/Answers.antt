@@ -1,8 +1,8 @@
 use Rattle.grammar.proofs.Basics.{rules}
-use Rattle.grammar.proofs.Basics.{◌≡◌, ◌∙◌, sym, true, false, Bool, not, ℕ, ◌<◌, ◌≤◌, ◌-◌, arith, ltb, length}
-use Rattle.grammar.proofs.Basics.{ltb-false, ltb-true, not-true, not-false}
+use Rattle.grammar.proofs.Basics.{◌≡◌, ◌∙◌, sym, true, false, Bool, ℕ, ◌<◌, ◌≤◌, arith, ltb}
+use Rattle.grammar.proofs.Basics.{ltb-false, ltb-true}
 use borrow.Author.Count.{below_more}
-use Rattle.forms.proofs.FormChecks.{FitBefore, form_too_long, form_over, form_fits}
+use Rattle.forms.proofs.FormChecks.{form_too_long, form_over, form_fits}
 use Rattle.asking.proofs.ask.form_check.Goals as goal
 
 -- what the answer on a byte says of it
@@ -23,17 +23,16 @@ pub returns-then-not-is_symbol : goal.returns-then-not-is_symbol
 returns-then-not-is_symbol c =
     record {
       checked =
-    sym
-    (form_over _ _ (search rules) c.loop-i.invariant.1 (search rules)
-    (over _ _ c.is_symbol.ensures.symbol c.if-not-is_symbol.true));
+          sym
+          (form_over _ _ (search rules) c.loop-i.invariant.1 (search rules)
+          (over _ _ c.is_symbol.ensures.symbol c.if-not-is_symbol.true));
     }
 
 pub loop-i-preserved : goal.loop-i-preserved
-loop-i-preserved c =
-    (
-      search rules,
-      below_more _ _ c.loop-i.invariant.1 (fits _ _ c.is_symbol.ensures.symbol c.if-not-is_symbol.false),
-    )
+loop-i-preserved c = (
+  search rules,
+  below_more _ _ c.loop-i.invariant.1 (fits _ _ c.is_symbol.ensures.symbol c.if-not-is_symbol.false),
+)
 
 pub returns : goal.returns
 returns c = record { checked = sym (form_fits _ (search rules) (λ k h. c.loop-i.invariant.1 k (omega arith))) }

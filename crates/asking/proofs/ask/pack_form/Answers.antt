@@ -1,7 +1,6 @@
-use Rattle.grammar.proofs.Basics.{◌≡◌, ◌∙◌, sym, ap, ℕ, ◌≤◌, ◌-◌, arith, length}
+use Rattle.grammar.proofs.Basics.{◌∙◌, sym, ap, ℕ, arith, length}
 use lib.ListN.{length-replicate}
-use Rattle.bit_machine.specs.BitTable.{bits_size}
-use Rattle.asking.proofs.FormPacked.{Packing, packing_begins, packing_goes, packing_ends}
+use Rattle.asking.proofs.FormPacked.{packing_begins, packing_goes, packing_ends}
 use Rattle.asking.proofs.ask.pack_form.Goals as goal
 
 pub loop-i-init : goal.loop-i-init
@@ -15,18 +14,20 @@ overflow_cast-form c = omega (arith, c.shared_slice_known-in-loop-i-1.given c.lo
 pub pack_symbol-requires : goal.pack_symbol-requires
 pack_symbol-requires c =
     record {
-      within =
-    (omega (arith, c.requires.fits.1 c.loop-i.i (omega arith)), c.requires.fits.0, omega (arith, c.loop-i.invariant.1));
+      within = (
+        omega (arith, c.requires.fits.1 c.loop-i.i (omega arith)),
+        c.requires.fits.0,
+        omega (arith, c.loop-i.invariant.1),
+      );
     }
 
 pub loop-i-preserved : goal.loop-i-preserved
-loop-i-preserved c =
-    (
-      omega arith,
-      c.pack_symbol.ensures.long ∙ c.loop-i.invariant.1,
-      packing_goes c.loop-i.invariant.2 (omega (arith, c.requires.fits.1 c.loop-i.i (omega arith)))
-          c.pack_symbol.ensures.packed,
-    )
+loop-i-preserved c = (
+  omega arith,
+  c.pack_symbol.ensures.long ∙ c.loop-i.invariant.1,
+  packing_goes c.loop-i.invariant.2 (omega (arith, c.requires.fits.1 c.loop-i.i (omega arith)))
+      c.pack_symbol.ensures.packed,
+)
 
 pub shape_of-bits : goal.shape_of-bits
 shape_of-bits c =

@@ -1,9 +1,8 @@
 -- `forms::ask::pack_form` packs symbol by symbol. The loop's invariant: the rows of the first i symbols are packed.
 -- Assumes nothing.
-use Rattle.grammar.proofs.Basics.{◌≡◌, ◌∙◌, sym, ap, ℕ, ◌≤◌, ◌-◌, arith, length}
-use lib.ListN.{length-replicate}
+use Rattle.grammar.proofs.Basics.{◌≡◌, ◌≤◌, ◌-◌, length}
 use Rattle.bit_machine.specs.BitTable.{bits_size}
-use Rattle.asking.proofs.FormPacked.{Packing, packing_begins, packing_goes, packing_ends}
+use Rattle.asking.proofs.FormPacked.{Packing}
 use Rattle.asking.proofs.ask.pack_form.Given as goal
 
 abbrev pub invariant-loop-i : goal.invariant-loop-i
