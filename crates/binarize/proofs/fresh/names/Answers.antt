@@ -1,12 +1,11 @@
 -- `fresh::names`: a long record names its head and what its body holds, any other what its fields name. Assumes
 -- nothing.
-use Rattle.grammar.proofs.Basics.{◌≡◌, true, false, Bool, List, ℕ, eq-eqb, ne_eqb, needs}
+use Rattle.grammar.proofs.Basics.{◌≡◌, true, false, Bool, List, ℕ, eq-eqb, ne_eqb}
 use Rattle.job.specs.declared.JobRecord.{JobRecord}
 use Rattle.long_jobs.specs.Dialect.{is_long_lem, head_of, body_of, short_of}
 use Rattle.long_jobs.specs.Fresh.{short_names_lem, holds, names}
 use Rattle.long_jobs.proofs.Formed.{known_kind}
-use Rattle.binarize.proofs.fresh.names.Statement.{statement}
-use Rattle.binarize.proofs.fresh.names.Tie as tie
+use Rattle.binarize.proofs.fresh.names.Goals as goal
 
 module _ (bytes : List ℕ) (v : ℕ) (long : Bool) (is : long ≡ is_long_lem bytes) where
   by_the_head : long ≡ true → head_of bytes ≡ v → true ≡ names bytes v
@@ -26,6 +25,14 @@ module _ (bytes : List ℕ) (v : ℕ) (long : Bool) (is : long ≡ is_long_lem b
 
 ruleset ways = (by_the_head, by_the_body, known_kind, by_the_fields)
 
-pub names_spec : {M : Type 1} → statement M
-names_spec = tie.close (tie.spec (λ c κs. search needs) (λ c. search needs) (λ c. search ways) (λ c κs. search needs)
-    (λ c κs. search needs) (λ c. search ways) (λ c κs. search needs) (λ c κs. search ways) (λ c. search ways))
+pub returns-then-bytes-v : goal.returns-then-bytes-v
+returns-then-bytes-v c = record { says = search ways }
+
+pub returns-then-is_long : goal.returns-then-is_long
+returns-then-is_long c = record { says = search ways }
+
+pub short_names-requires : goal.short_names-requires
+short_names-requires c = record { known = search ways }
+
+pub returns : goal.returns
+returns c = record { says = search ways }

@@ -1,11 +1,10 @@
 -- `fresh::add_free`: a variable that no record names comes behind those in front. Assumes nothing.
-use Rattle.grammar.proofs.Basics.{◌≡◌, ◌∙◌, sym, true, false, Bool, List, ℕ, ◌<◌, ◌+◌, suc, arith, set, needs}
+use Rattle.grammar.proofs.Basics.{◌≡◌, ◌∙◌, sym, true, false, Bool, List, ℕ, ◌<◌, ◌+◌, suc, arith, set}
 use Rattle.long_jobs.specs.Dialect.{long_records_lem}
 use Rattle.long_jobs.specs.Fresh.{is_named_lem, unnamed_below}
 use Rattle.long_jobs.specs.Inside.Parts.{InFront}
 use Rattle.long_jobs.proofs.Front.{named_below, unnamed_below_lem, unnamed_few, one_more_in_front}
-use Rattle.binarize.proofs.fresh.add_free.Statement.{statement}
-use Rattle.binarize.proofs.fresh.add_free.Tie as tie
+use Rattle.binarize.proofs.fresh.add_free.Goals as goal
 
 module _ (rs : List (List ℕ)) (free : List ℕ) (n v : ℕ) (front : InFront free n (unnamed_below rs v)) where
   few : v < 32 → n < 64
@@ -19,15 +18,19 @@ module _ (rs : List (List ℕ)) (free : List ℕ) (n v : ℕ) (front : InFront f
     one_more e h =
         rw (unnamed_below_lem rs v (sym is ∙ e)) (one_more_in_front free (unnamed_below rs v) n v front (few h))
 
-room : (c : tie.Else1) → c.before.before.before.args.n < 64
-room c = let p = c.before.before.before.requires.1 in few _ _ _ _ p.1 p.0
+pub returns-then-is_named : goal.returns-then-is_named
+returns-then-is_named c = record { front = search as_before }
 
-returns-2 : tie.Need-returns-2
-returns-2 c =
-    let s = c.before.before.before in
-    one_more (long_records_lem s.args.source.now) _ _ s.args.v s.requires.1.1 _ c.before.is-named.ensures
-    c.if1.false s.requires.1.0
+pub bounds-free-n : goal.bounds-free-n
+bounds-free-n c = let p = c.requires.front in few _ _ _ _ p.1 p.0
 
-pub add_free_spec : {M : Type 1} → statement M
-add_free_spec = tie.close (tie.spec (λ c κs. search needs) (λ c. search as_before) room
-    (λ c. omega (arith, room c)) returns-2)
+pub overflow_add-result : goal.overflow_add-result
+overflow_add-result c = let p = c.requires.front in omega (arith, few _ _ _ _ p.1 p.0)
+
+pub returns : goal.returns
+returns c =
+    record {
+      front =
+          one_more (long_records_lem c.args.source.now) _ _ c.args.v c.requires.front.1 _ c.is_named.ensures.says
+          c.if-is_named.false c.requires.front.0;
+    }

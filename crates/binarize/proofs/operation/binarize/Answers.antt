@@ -1,7 +1,7 @@
 -- `operation::binarize`: the check that refuses is the first that does; where none does, the bytes copied are those of
 -- the records written. Assumes nothing.
 use Rattle.grammar.proofs.Basics.{◌≡◌, ◌∙◌, sym, ap, true, List, map, ◌++◌, ℕ, ◌≤◌, ◌-◌, ◌*◌, arith, length, take}
-use Rattle.grammar.proofs.Basics.{drop, length-take-le, ltb, eq-eqb, ne_eqb, needs}
+use Rattle.grammar.proofs.Basics.{drop, length-take-le, ltb, eq-eqb, ne_eqb}
 use native.Mathlib.Nat.{sub-zero}
 use lib.ListN.{length-replicate}
 use Rattle.job.specs.declared.Checked.{Checked}
@@ -19,8 +19,7 @@ use Rattle.long_jobs.specs.Operation.{job_records, size_check_lem, binarize_chec
 use Rattle.long_jobs.specs.Inside.Parts.{written_size, WalkedTo, refusal}
 use Rattle.long_jobs.proofs.Buffer.{first_counted}
 use Rattle.long_jobs.proofs.FirstWalk.{all_formed}
-use Rattle.binarize.proofs.operation.binarize.Statement.{statement}
-use Rattle.binarize.proofs.operation.binarize.Tie as tie
+use Rattle.binarize.proofs.operation.binarize.Goals as goal
 
 -- what passes the check of its size fits
 size_fits : (n room : ℕ) → (size_check_lem n room).number ≡ 0 → 4 * n ≤ room
@@ -88,75 +87,71 @@ module _ (longJob out : List ℕ) where
                 (bytes_of_records w.count _ (length-take-le (4 * w.count) written within)) in
                 rw (last_decides, last-passed, counted, bytes, copied, part_long)
 
-returns : tie.Need-returns
-returns c =
-    let s = c.before.before in
-    refused_call _ _ _ _ _ c.before.if1.true
-    (first_refuses _ _ _ s.before.long-check.ensures c.before.if1.true) c.refusal.ensures
-
 -- the long job has passed the first walk
-passed : (e : tie.Else1) → (long_check_lem e.before.before.before.before.before.args.source.now).number ≡ 0
-passed e = rw (← e.before.before.long-check.ensures) e.if1.false
+passed : (first : Checked) (longJob : List ℕ) → first ≡ long_check_lem longJob → first.number ≡ 0
+    → (long_check_lem longJob).number ≡ 0
+passed first longJob is z = rw (← is) z
 
-walk_requires : tie.Need-walk-requires
-walk_requires c κs =
-    let p = passed c.before in
-    ((bytes_passed long_format _ p).0, all_formed _ p, length-replicate {A = ℕ} written_size 0)
+pub returns-then-first-ne0 : goal.returns-then-first-ne0
+returns-then-first-ne0 c =
+    record {
+      left =
+          refused_call _ _ _ _ _ c.if-first-ne0.true
+          (first_refuses _ _ _ c.long_check-first.ensures.checked c.if-first-ne0.true) c.refusal.ensures.refusal;
+    }
 
-last_check_requires : tie.Need-last-check-requires
-last_check_requires c κs =
-    let w = c.before.before.before in
-    ((bytes_passed long_format _ (passed w.before.before)).0, w.walk.ensures.few c.if2.false)
+pub walk-second-requires : goal.walk-second-requires
+walk-second-requires c =
+    record {
+      formed =
+          let p = passed _ _ c.long_check-first.ensures.checked c.if-first-ne0.false in
+          ((bytes_passed long_format _ p).0, all_formed _ p, length-replicate {A = ℕ} written_size 0);
+    }
 
-returns-2 : tie.Need-returns-2
-returns-2 c =
-    let w = c.before.before.before.before in
-    let e = w.before.before in
-    refused_call _ _ _ _ _ c.before.if2.true
-    (walk_refuses _ _ _ e.before.before.long-check.ensures e.if1.false _ _ w.walk.ensures
-    c.before.if2.true) c.refusal2.ensures
+pub returns-then-second-ne0 : goal.returns-then-second-ne0
+returns-then-second-ne0 c =
+    record {
+      left =
+          refused_call _ _ _ _ _ c.if-second-ne0.true
+          (walk_refuses _ _ _ c.long_check-first.ensures.checked c.if-first-ne0.false _ _ c.walk-second.ensures.walked
+          c.if-second-ne0.true) c.refusal-then-second-ne0.ensures.refusal;
+    }
 
-returns-3 : tie.Need-returns-3
-returns-3 c =
-    let l = c.before.before.before in
-    let w = l.before.before.before.before in
-    let e = w.before.before in
-    refused_call _ _ _ _ _ c.before.if3.true
-    (last_decides _ _ _ e.before.before.long-check.ensures e.if1.false _ _ w.walk.ensures
-    l.before.if2.false _ l.last-check.ensures) c.refusal3.ensures
+pub last_check-last-requires : goal.last_check-last-requires
+last_check-last-requires c =
+    record {
+      few =
+          ((bytes_passed long_format _ (passed _ _ c.long_check-first.ensures.checked c.if-first-ne0.false)).0, c.walk-second.ensures.walked.few c.if-second-ne0.false);
+    }
 
-write_front_requires : tie.Need-write-front-requires
-write_front_requires c κs =
-    let f = c.before.before.before.before in
-    let l = f.before.before in
-    let w = l.before.before.before.before in
-    let e = w.before.before in
-    let t = e.before.before in
-    part_fits _ t.before.before.before.args.out.now _ t.long-check.ensures e.if1.false _ _
-    w.walk.ensures l.before.if2.false _ l.last-check.ensures f.if3.false
+pub returns-then-last-ne0 : goal.returns-then-last-ne0
+returns-then-last-ne0 c =
+    record {
+      left =
+          refused_call _ _ _ _ _ c.if-last-ne0.true
+          (last_decides _ _ _ c.long_check-first.ensures.checked c.if-first-ne0.false _ _ c.walk-second.ensures.walked
+          c.if-second-ne0.false _ c.last_check-last.ensures.checked) c.refusal-then-last-ne0.ensures.refusal;
+    }
 
-returns-4 : tie.Need-returns-4
-returns-4 c =
-    let d = c.before.before in
-    let f = d.before.before.before.before.before in
-    let l = f.before.before in
-    let w = l.before.before.before.before in
-    let e = w.before.before in
-    succeeded _ _ _ e.before.before.long-check.ensures e.if1.false _ _ w.walk.ensures
-    l.before.if2.false _ l.last-check.ensures f.if3.false _ d.write-front.ensures
+pub overflow_mul-end : goal.overflow_mul-end
+overflow_mul-end c = omega (arith, c.walk-second.ensures.walked.few c.if-second-ne0.false)
 
-pub binarize_spec : {M : Type 1} → statement M
-binarize_spec =
-    tie.close
-    (tie.spec (λ c κs. search needs) (λ c κs. search needs) returns (λ c. search needs) walk_requires
-    (λ c κs. search needs) returns-2 last_check_requires
-    (λ c κs. search needs) returns-3
-    (λ c.
-    let e = c.before.before.before.before in
-    omega (arith, e.before.before.before.walk.ensures.few e.if2.false))
-    (λ c. search needs) (λ c. search needs)
-    (λ c.
-    let e = c.before.before.before.before.before in
-    let w = e.before.before.before.walk.ensures in
-    omega (arith, w.few e.if2.false, w.out_size))
-    write_front_requires (λ c. search needs) returns-4)
+pub slice_bounds-write_front-end : goal.slice_bounds-write_front-end
+slice_bounds-write_front-end c = let w = c.walk-second.ensures.walked in
+    omega (arith, w.few c.if-second-ne0.false, w.out_size)
+
+pub write_front-requires : goal.write_front-requires
+write_front-requires c =
+    record {
+      fits =
+          part_fits _ c.args.out.now _ c.long_check-first.ensures.checked c.if-first-ne0.false _ _
+          c.walk-second.ensures.walked c.if-second-ne0.false _ c.last_check-last.ensures.checked c.if-last-ne0.false;
+    }
+
+pub returns : goal.returns
+returns c =
+    record {
+      left =
+          succeeded _ _ _ c.long_check-first.ensures.checked c.if-first-ne0.false _ _ c.walk-second.ensures.walked
+          c.if-second-ne0.false _ c.last_check-last.ensures.checked c.if-last-ne0.false _ c.write_front.ensures.copied;
+    }

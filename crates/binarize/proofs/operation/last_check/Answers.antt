@@ -1,6 +1,6 @@
 -- `operation::last_check`: by what all records count to, 8 and 9 are the job's; the second check decides where they
 -- refuse nothing. Assumes nothing.
-use Rattle.grammar.proofs.Basics.{◌≡◌, true, List, map, ℕ, ◌/◌, length, length-map, eq-eqb, ne_eqb, needs}
+use Rattle.grammar.proofs.Basics.{◌≡◌, true, List, map, ℕ, ◌/◌, length, length-map, eq-eqb, ne_eqb}
 use Rattle.job.specs.declared.Checked.{Checked}
 use Rattle.job.specs.declared.Tally.{Tally}
 use Rattle.job.specs.Records.{or_else}
@@ -9,8 +9,7 @@ use Rattle.job.specs.Inside.Walk.{tally_of, missing_by}
 use Rattle.job.proofs.Walk.{missing_counted}
 use Rattle.long_jobs.specs.Dialect.{long_records_lem, short_of}
 use Rattle.long_jobs.proofs.LongRecords.{long_records_counted}
-use Rattle.binarize.proofs.operation.last_check.Statement.{statement}
-use Rattle.binarize.proofs.operation.last_check.Tie as tie
+use Rattle.binarize.proofs.operation.last_check.Goals as goal
 
 module _ (longJob : List ℕ) (t : Tally) (c b : Checked) (all : t ≡ tally_of (map short_of (long_records_lem longJob)))
     (e : c ≡ missing_by true t (length longJob / 12)) where
@@ -32,6 +31,8 @@ module _ (longJob : List ℕ) (t : Tally) (c b : Checked) (all : t ≡ tally_of 
 
 ruleset ways = (by_the_first, by_the_second)
 
-pub last_check_spec : {M : Type 1} → statement M
-last_check_spec = tie.close (tie.spec (λ c κs. search needs) (λ c κs. search needs) (λ c. search ways)
-    (λ c κs. search needs) (λ c. search ways))
+pub returns-then-c-ne0 : goal.returns-then-c-ne0
+returns-then-c-ne0 c = record { checked = search ways }
+
+pub returns : goal.returns
+returns c = record { checked = search ways }

@@ -1,10 +1,9 @@
 -- `walk::written_fault`: the tests are the definition's. Assumes nothing.
-use Rattle.grammar.proofs.Basics.{◌≡◌, true, false, Bool, List, ℕ, ◌<◌, ◌≤◌, le-leb, lt-leb, needs}
+use Rattle.grammar.proofs.Basics.{◌≡◌, true, false, Bool, List, ℕ, ◌<◌, ◌≤◌, le-leb, lt-leb}
 use Rattle.job.specs.declared.JobRecord.{JobRecord}
 use Rattle.job.specs.Format.{is_rule_lem, has}
 use Rattle.long_jobs.specs.Inside.Parts.{fault_of}
-use Rattle.binarize.proofs.walk.written_fault.Statement.{statement}
-use Rattle.binarize.proofs.walk.written_fault.Tie as tie
+use Rattle.binarize.proofs.walk.written_fault.Goals as goal
 
 module _ (seen : List JobRecord) (rules : ℕ) (r : JobRecord) (stands : Bool) (is : stands ≡ has seen r) where
   stands_already : stands ≡ true → 5 ≡ fault_of seen rules r
@@ -22,6 +21,14 @@ module _ (seen : List JobRecord) (rules : ℕ) (r : JobRecord) (stands : Bool) (
 
 ruleset ways = (stands_already, one_too_many, one_more, no_rule)
 
-pub written_fault_spec : {M : Type 1} → statement M
-written_fault_spec = tie.close (tie.spec (λ c κs. search needs) (λ c. search ways) (λ c κs. search needs)
-    (λ c. search ways) (λ c. search ways) (λ c. search ways))
+pub returns-then-has_record : goal.returns-then-has_record
+returns-then-has_record c = record { fault = search ways }
+
+pub returns-then-rules-ge-RULES : goal.returns-then-rules-ge-RULES
+returns-then-rules-ge-RULES c = record { fault = search ways }
+
+pub returns-else-rules-ge-RULES : goal.returns-else-rules-ge-RULES
+returns-else-rules-ge-RULES c = record { fault = search ways }
+
+pub returns-else-is_rule : goal.returns-else-is_rule
+returns-else-is_rule c = record { fault = search ways }

@@ -1,5 +1,4 @@
--- `fresh::is_named`. The invariant: no record before i names v, so those from i on decide. Assumes nothing.
-use Rattle.grammar.proofs.Basics.{◌≡◌, refl, ◌∙◌, sym, true, false, Bool, ◌||◌, List, [], ℕ, ◌<◌, ◌≤◌, ◌+◌, ◌-◌, arith}
+use Rattle.grammar.proofs.Basics.{◌≡◌, refl, ◌∙◌, sym, true, false, Bool, ◌||◌, List, [], ℕ, ◌<◌, ◌≤◌, ◌+◌, arith}
 use Rattle.grammar.proofs.Basics.{length, get_or, drop}
 use Rattle.long_jobs.specs.Dialect.{long_records_lem}
 use Rattle.long_jobs.specs.Check.{is_unknown_lem}
@@ -8,15 +7,7 @@ use Rattle.long_jobs.specs.Inside.Parts.{AllFormed}
 use Rattle.long_jobs.proofs.LongRecords.{long_records_counted, of_twelve_bytes}
 use Rattle.long_jobs.proofs.Formed.{well_formed}
 use Rattle.long_jobs.proofs.Remaining.{one_remains, none_remains}
-use Rattle.binarize.proofs.fresh.is_named.Statement.{statement}
-use Rattle.binarize.proofs.fresh.is_named.Tie as tie
-
-abbrev invariant-loop : tie.invariant-loop
-invariant-loop longJob v count i₀ i =
-    (count ≡ length (long_records_lem longJob)) × (is_named_lem (long_records_lem longJob) v ≡ is_named_lem (drop i (long_records_lem longJob)) v)
-
-abbrev decreases-loop : tie.decreases-loop
-decreases-loop longJob v count i₀ i = count - i
+use Rattle.binarize.proofs.fresh.is_named.Goals as goal
 
 known : (longJob bytes : List ℕ) (i count : ℕ) → AllFormed (long_records_lem longJob) → count ≡ length (long_records_lem longJob)
     → i < count → bytes ≡ get_or (long_records_lem longJob) i []
@@ -44,12 +35,21 @@ module _ (rs : List (List ℕ)) (v count i : ℕ) (all : count ≡ length rs)
   unfolding is_named_lem
   over h = let l : length rs ≤ i = omega arith in rw (none_remains (λ xs. is_named_lem xs v) rs i remains l)
 
-known_here : tie.Need-names-requires invariant-loop decreases-loop
-known_here c κs =
-    let l = c.before.before in
-    known _ _ _ _ l.before.before.requires l.loop.invariant.0 c.before.loop-test.true c.record_at_lem.ensures
+pub loop-i-init : goal.loop-i-init
+loop-i-init c = (sym (long_records_counted _), refl)
 
-pub is_named_spec : {M : Type 1} → statement M
-is_named_spec = tie.close (tie.spec invariant-loop decreases-loop (λ c. (sym (long_records_counted _), refl)) (λ c κs. omega arith)
-    known_here (λ c. search found) (λ c. omega arith) (λ c. omega arith)
-    (λ c. (c.before.before.before.before.loop.invariant.0, search passed)) (λ c. search over))
+pub names-requires : goal.names-requires
+names-requires c =
+    record {
+      known =
+          known _ _ _ _ c.requires.formed c.loop-i.invariant.0 c.loop-i-test.true c.record_at.ensures.record;
+    }
+
+pub returns-then-names : goal.returns-then-names
+returns-then-names c = record { says = search found }
+
+pub loop-i-preserved : goal.loop-i-preserved
+loop-i-preserved c = (c.loop-i.invariant.0, search passed)
+
+pub returns : goal.returns
+returns c = record { says = search over }

@@ -1,10 +1,9 @@
 -- `fresh::short_names`: the three tests are the definition's, at the row that the kind byte has. Assumes nothing.
-use Rattle.grammar.proofs.Basics.{◌≡◌, true, false, Bool, ℕ, needs}
+use Rattle.grammar.proofs.Basics.{◌≡◌, true, false, Bool, ℕ}
 use Rattle.job.specs.declared.JobRecord.{JobRecord}
 use Rattle.job.specs.Format.{field_classes, row_of, class_at}
 use Rattle.long_jobs.specs.Fresh.{field_names_lem, short_names_lem}
-use Rattle.binarize.proofs.fresh.short_names.Statement.{statement}
-use Rattle.binarize.proofs.fresh.short_names.Tie as tie
+use Rattle.binarize.proofs.fresh.short_names.Goals as goal
 
 module _ (r : JobRecord) (v row : ℕ) (is : row ≡ row_of r.kind) (a : Bool)
     (first : a ≡ field_names_lem (class_at field_classes row 0) r.first v) where
@@ -24,6 +23,11 @@ module _ (r : JobRecord) (v row : ℕ) (is : row ≡ row_of r.kind) (a : Bool)
 
 ruleset ways = (by_the_first, by_the_second, by_the_third)
 
-pub short_names_spec : {M : Type 1} → statement M
-short_names_spec = tie.close (tie.spec (λ c κs. search needs) (λ c κs. search needs) (λ c. search ways)
-    (λ c κs. search needs) (λ c. search ways) (λ c κs. search needs) (λ c. search ways))
+pub returns-then-field_names : goal.returns-then-field_names
+returns-then-field_names c = record { says = search ways }
+
+pub returns-then-field_names-2 : goal.returns-then-field_names-2
+returns-then-field_names-2 c = record { says = search ways }
+
+pub returns : goal.returns
+returns c = record { says = search ways }

@@ -1,10 +1,9 @@
 -- `operation::size_check`: 2 where the test is passed, else what the check of room says. Assumes nothing.
-use Rattle.grammar.proofs.Basics.{◌≡◌, ℕ, ◌<◌, ◌≤◌, ◌*◌, lt-ltb, le-ltb, needs}
+use Rattle.grammar.proofs.Basics.{◌≡◌, ℕ, ◌<◌, ◌≤◌, ◌*◌, lt-ltb, le-ltb}
 use Rattle.job.specs.declared.Checked.{Checked}
 use Rattle.job.specs.Check.{refused, room_check}
 use Rattle.long_jobs.specs.Operation.{size_check_lem}
-use Rattle.binarize.proofs.operation.size_check.Statement.{statement}
-use Rattle.binarize.proofs.operation.size_check.Tie as tie
+use Rattle.binarize.proofs.operation.size_check.Goals as goal
 
 module _ (n room : ℕ) where
   too_many : 16384 < 4 * n → refused 2 (4 * n) ≡ size_check_lem n room
@@ -17,5 +16,8 @@ module _ (n room : ℕ) where
 
 ruleset ways = (too_many, by_room)
 
-pub size_check_spec : {M : Type 1} → statement M
-size_check_spec = tie.close (tie.spec (λ c. search needs) (λ c. search ways) (λ c κs. search needs) (λ c. search ways))
+pub returns-then-needed-gt-JOB_BYTES : goal.returns-then-needed-gt-JOB_BYTES
+returns-then-needed-gt-JOB_BYTES c = record { checked = search ways }
+
+pub returns : goal.returns
+returns c = record { checked = search ways }

@@ -1,16 +1,8 @@
--- `fresh::holds`. The invariant: v is not among the bytes before i, so those from i on decide. Assumes nothing.
-use Rattle.grammar.proofs.Basics.{◌≡◌, refl, ◌∙◌, true, false, List, ℕ, ◌<◌, ◌≤◌, ◌+◌, ◌-◌, arith, length, get_or, drop}
+use Rattle.grammar.proofs.Basics.{◌≡◌, refl, ◌∙◌, true, false, List, ℕ, ◌<◌, ◌≤◌, ◌+◌, length, get_or, drop}
 use Rattle.grammar.proofs.Basics.{eq-eqb, ne_eqb}
 use Rattle.long_jobs.specs.Fresh.{holds}
 use Rattle.long_jobs.proofs.Remaining.{one_remains, none_remains}
-use Rattle.binarize.proofs.fresh.holds.Statement.{statement}
-use Rattle.binarize.proofs.fresh.holds.Tie as tie
-
-abbrev invariant-loop : tie.invariant-loop
-invariant-loop bytes v i₀ i = holds bytes v ≡ holds (drop i bytes) v
-
-abbrev decreases-loop : tie.decreases-loop
-decreases-loop bytes v i₀ i = length bytes - i
+use Rattle.binarize.proofs.fresh.holds.Goals as goal
 
 module _ (bytes : List ℕ) (v i : ℕ) (remains : holds bytes v ≡ holds (drop i bytes) v) where
   module _ (h : i < length bytes) where
@@ -26,6 +18,14 @@ module _ (bytes : List ℕ) (v i : ℕ) (remains : holds bytes v ≡ holds (drop
   unfolding holds
   over h = rw (none_remains (λ xs. holds xs v) bytes i remains h)
 
-pub holds_spec : {M : Type 1} → statement M
-holds_spec = tie.close (tie.spec invariant-loop decreases-loop (λ c. refl) (λ c. omega arith) (λ c. search found)
-    (λ c. omega arith) (λ c. omega arith) (λ c. search passed) (λ c. search over))
+pub loop-i-init : goal.loop-i-init
+loop-i-init c = refl
+
+pub returns-then-bytes-i : goal.returns-then-bytes-i
+returns-then-bytes-i c = record { says = search found }
+
+pub loop-i-preserved : goal.loop-i-preserved
+loop-i-preserved c = search passed
+
+pub returns : goal.returns
+returns c = record { says = search over }
