@@ -1,8 +1,7 @@
 -- `copy_squares` copies state by state. The invariant: the rows of the first q states are copied. Assumes nothing.
-use Rattle.grammar.proofs.Basics.{◌≡◌, ◌≤◌, ◌+◌, ◌-◌, ◌*◌, ◌/◌, ◌%◌, arith}
+use Rattle.grammar.proofs.Basics.{◌≤◌, ◌+◌, ◌-◌, ◌*◌, ◌/◌, ◌%◌}
 use Rattle.bit_machine.specs.BitTable.{table_of_bits}
 use Rattle.bit_machine.specs.Inside.Index.{Written, RowIs, column_of}
-use Rattle.bit_machine.proofs.Columns.{written_none, rows_copied}
 use Rattle.columns.proofs.turn.copy_squares.Given as goal
 
 abbrev pub invariant-loop-q : goal.invariant-loop-q

@@ -25,7 +25,7 @@ pub returns : goal.returns
 returns c =
     record {
       exchanged =
-    let blocks = c.requires.blocks in
-    exchanged_one _ _ _ _ _ _ c.requires.within.0 c.requires.within.1 (λ b l. first_word _ _ _ _ b blocks l)
-    (λ b l. second_word _ _ _ _ b blocks l (omega arith));
+          let blocks = c.requires.blocks in
+          exchanged_one _ _ _ _ _ _ c.requires.within.0 c.requires.within.1 (λ b l. first_word _ _ _ _ b blocks l)
+          (λ b l. second_word _ _ _ _ b blocks l (omega arith));
     }

@@ -1,5 +1,4 @@
-use Rattle.grammar.proofs.Basics.{◌≡◌, ◌≤◌, ◌-◌, arith}
-use Rattle.bit_machine.specs.Inside.Index.{Exchanged}
+use Rattle.grammar.proofs.Basics.{◌≡◌, arith}
 use Rattle.bit_machine.proofs.Turning.{run_begins, run_goes}
 use Rattle.columns.proofs.turn.exchange_run.Goals as goal
 
@@ -8,9 +7,9 @@ loop-n-init c = (omega arith, run_begins _ _ _ _)
 
 pub exchange-requires : goal.exchange-requires
 exchange-requires c = record {
-      within = (omega (arith, c.loop-n.invariant.1.long), omega arith);
-      blocks = c.requires.blocks;
-    }
+  within = (omega (arith, c.loop-n.invariant.1.long), omega arith);
+  blocks = c.requires.blocks;
+}
 
 pub loop-n-preserved : goal.loop-n-preserved
 loop-n-preserved c =
@@ -23,6 +22,6 @@ pub returns : goal.returns
 returns c =
     record {
       exchanged =
-    let e : c.loop-n.n ≡ c.args.d = omega arith in
-    rw e at c.loop-n.invariant.1;
+          let e : c.loop-n.n ≡ c.args.d = omega arith in
+          rw e at c.loop-n.invariant.1;
     }

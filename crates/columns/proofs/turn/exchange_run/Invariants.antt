@@ -1,8 +1,7 @@
 -- `exchange_run` goes word by word. The invariant: the first n words and those at the distance are exchanged. Assumes
 -- nothing.
-use Rattle.grammar.proofs.Basics.{◌≡◌, ◌≤◌, ◌-◌, arith}
+use Rattle.grammar.proofs.Basics.{◌≤◌, ◌-◌}
 use Rattle.bit_machine.specs.Inside.Index.{Exchanged}
-use Rattle.bit_machine.proofs.Turning.{run_begins, run_goes}
 use Rattle.columns.proofs.turn.exchange_run.Given as goal
 
 abbrev pub invariant-loop-n : goal.invariant-loop-n

@@ -1,7 +1,6 @@
 -- `is_blank` joins the words. The invariant: where nothing is joined yet, the first i words are zeros. Assumes
 -- nothing.
-use Rattle.grammar.proofs.Basics.{◌≡◌, ℕ, ◌<◌, ◌≤◌, ◌-◌, arith, eqb, eqb-true, eqb-false, cases, get_or}
-use Rattle.bit_machine.proofs.BitLaws.{or_none}
+use Rattle.grammar.proofs.Basics.{◌≡◌, ℕ, ◌<◌, ◌≤◌, ◌-◌, get_or}
 use Rattle.columns.proofs.turn.is_blank.Given as goal
 
 abbrev pub invariant-loop-i : goal.invariant-loop-i

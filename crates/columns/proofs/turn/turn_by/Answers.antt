@@ -1,5 +1,5 @@
-use Rattle.grammar.proofs.Basics.{◌-◌, arith}
-use Rattle.bit_machine.proofs.Turning.{Turning, turning_begins, turning_goes, turning_ends, run_fits, some_bits}
+use Rattle.grammar.proofs.Basics.{arith}
+use Rattle.bit_machine.proofs.Turning.{turning_begins, turning_goes, turning_ends, run_fits, some_bits}
 use Rattle.columns.proofs.turn.turn_by.Goals as goal
 
 pub loop-at-init : goal.loop-at-init
@@ -12,13 +12,13 @@ overflow_mul-j c =
 
 pub exchange_run-requires : goal.exchange_run-requires
 exchange_run-requires c = record {
-      within = omega (
-        arith,
-        run_fits c.requires.blocks.size c.loop-at.at c.loop-at.invariant.whole (omega arith),
-        c.loop-at.invariant.long,
-      );
-      blocks = c.requires.blocks;
-    }
+  within = omega (
+    arith,
+    run_fits c.requires.blocks.size c.loop-at.at c.loop-at.invariant.whole (omega arith),
+    c.loop-at.invariant.long,
+  );
+  blocks = c.requires.blocks;
+}
 
 pub overflow_mul-at : goal.overflow_mul-at
 overflow_mul-at c =

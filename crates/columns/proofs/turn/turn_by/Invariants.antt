@@ -1,6 +1,6 @@
 -- `turn_by` exchanges run by run. The invariant: the words before a place are exchanged. Assumes nothing.
-use Rattle.grammar.proofs.Basics.{◌-◌, arith}
-use Rattle.bit_machine.proofs.Turning.{Turning, turning_begins, turning_goes, turning_ends, run_fits, some_bits}
+use Rattle.grammar.proofs.Basics.{◌-◌}
+use Rattle.bit_machine.proofs.Turning.{Turning}
 use Rattle.columns.proofs.turn.turn_by.Given as goal
 
 abbrev pub invariant-loop-at : goal.invariant-loop-at

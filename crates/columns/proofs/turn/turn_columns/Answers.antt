@@ -1,6 +1,4 @@
-use Rattle.grammar.proofs.Basics.{◌≡◌, ◌∙◌, ◌≤◌, ◌-◌, arith, length}
-use Rattle.bit_machine.specs.BitTable.{table_of_bits}
-use Rattle.bit_machine.specs.Inside.Index.{ColumnsTurned, column_of}
+use Rattle.grammar.proofs.Basics.{◌≡◌, ◌∙◌, arith}
 use Rattle.bit_machine.proofs.Columns.{columns_none, columns_more}
 use Rattle.columns.proofs.turn.turn_columns.Goals as goal
 

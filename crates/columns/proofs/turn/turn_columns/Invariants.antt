@@ -1,8 +1,7 @@
 -- `turn_columns` goes group by group. The invariant: the columns of the first c groups are right. Assumes nothing.
-use Rattle.grammar.proofs.Basics.{◌≡◌, ◌∙◌, ◌≤◌, ◌-◌, arith, length}
+use Rattle.grammar.proofs.Basics.{◌≡◌, ◌≤◌, ◌-◌, length}
 use Rattle.bit_machine.specs.BitTable.{table_of_bits}
 use Rattle.bit_machine.specs.Inside.Index.{ColumnsTurned, column_of}
-use Rattle.bit_machine.proofs.Columns.{columns_none, columns_more}
 use Rattle.columns.proofs.turn.turn_columns.Given as goal
 
 abbrev pub invariant-loop-c : goal.invariant-loop-c

@@ -1,5 +1,4 @@
-use Rattle.grammar.proofs.Basics.{◌≡◌, refl, ◌≤◌, ◌+◌, ◌-◌, ◌*◌, arith, get_or}
-use Rattle.bit_machine.specs.Inside.Index.{Written}
+use Rattle.grammar.proofs.Basics.{◌≡◌, refl, arith}
 use Rattle.bit_machine.proofs.Columns.{written_none, written_more}
 use Rattle.columns.proofs.turn.write_square.Goals as goal
 
@@ -20,6 +19,6 @@ pub returns : goal.returns
 returns c =
     record {
       written =
-    let e : c.loop-r.r ≡ 32 = omega arith in
-    rw e at c.loop-r.invariant.1;
+          let e : c.loop-r.r ≡ 32 = omega arith in
+          rw e at c.loop-r.invariant.1;
     }

@@ -1,7 +1,6 @@
 -- `write_square` writes word by word. The invariant: the first r words are written. Assumes nothing.
-use Rattle.grammar.proofs.Basics.{◌≡◌, refl, ◌≤◌, ◌+◌, ◌-◌, ◌*◌, arith, get_or}
+use Rattle.grammar.proofs.Basics.{◌≡◌, ◌≤◌, ◌+◌, ◌-◌, ◌*◌, get_or}
 use Rattle.bit_machine.specs.Inside.Index.{Written}
-use Rattle.bit_machine.proofs.Columns.{written_none, written_more}
 use Rattle.columns.proofs.turn.write_square.Given as goal
 
 abbrev pub invariant-loop-r : goal.invariant-loop-r

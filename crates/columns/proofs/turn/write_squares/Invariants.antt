@@ -1,7 +1,6 @@
 -- `write_squares` writes square by square. The invariant: the first x squares are written. Assumes nothing.
-use Rattle.grammar.proofs.Basics.{◌≡◌, ◌≤◌, ◌+◌, ◌-◌, ◌*◌, ◌/◌, ◌%◌, arith, get_or}
+use Rattle.grammar.proofs.Basics.{◌≡◌, ◌≤◌, ◌+◌, ◌-◌, ◌*◌, ◌/◌, ◌%◌, get_or}
 use Rattle.bit_machine.specs.Inside.Index.{Written}
-use Rattle.bit_machine.proofs.Columns.{written_none, square_written}
 use Rattle.columns.proofs.turn.write_squares.Given as goal
 
 abbrev pub invariant-loop-x : goal.invariant-loop-x
