@@ -1,0 +1,13 @@
+-- `pack::pack` packs part by part. The loop's invariant: the rows of the first n parts are packed. Assumes nothing.
+use Rattle.grammar.proofs.Basics.{◌≡◌, ◌∙◌, sym, ap, inl, true, ℕ, ◌≤◌, ◌*◌, ◌-◌, ◌/◌, arith, ltb, lt-ltb, length}
+use lib.ListN.{length-replicate}
+use Rattle.bit_machine.specs.BitTable.{bits_size}
+use Rattle.packing.specs.Packing.{PackedRows}
+use Rattle.packing.proofs.Packed.{none_packed, packed_more}
+use Rattle.packing.proofs.pack.pack.Given as goal
+
+abbrev pub invariant-loop-n : goal.invariant-loop-n
+invariant-loop-n l = (l.n ≤ 512) × (length l.bits ≡ bits_size) × PackedRows (λ r. ltb r (l.n * 4)) l.table l.bits
+
+abbrev pub decreases-loop-n : goal.decreases-loop-n
+decreases-loop-n l = 512 - l.n
