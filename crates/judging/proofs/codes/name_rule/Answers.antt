@@ -8,21 +8,21 @@ use Rattle.judging.proofs.codes.name_rule.Goals as goal
 
 pub raise-requires : goal.raise-requires
 raise-requires c = record {
-      symbol = omega arith;
-      flags = c.requires.flags;
-    }
+  symbol = omega arith;
+  flags = c.requires.flags;
+}
 
 pub raise_body-requires : goal.raise_body-requires
 raise_body-requires c = record {
-      rule = c.requires.rule;
-      flags = flags_bits (c.raise.ensures.raised (flagged c.args.flags.now) c.requires.flags).flags;
-    }
+  rule = c.requires.rule;
+  flags = flags_bits (c.raise.ensures.raised (flagged c.args.flags.now) c.requires.flags).flags;
+}
 
 pub returns : goal.returns
 unfolding any_in
 returns c =
     record {
       flags = λ s held.
-    let first = c.raise.ensures.raised s held in
-    flags_alike (c.raise_body.ensures.raised _ first.flags).flags (λ X _. simp (from_head, or_assoc));
+          let first = c.raise.ensures.raised s held in
+          flags_alike (c.raise_body.ensures.raised _ first.flags).flags (λ X _. simp (from_head, or_assoc));
     }

@@ -1,12 +1,9 @@
-use Rattle.grammar.proofs.Basics.{or-false, and-true, or_assoc, ◌≤◌, ◌-◌, arith, length, get_or, take}
+use Rattle.grammar.proofs.Basics.{or-false, and-true, or_assoc, arith, get_or}
 use lib.Seq.{take_all}
-use Rattle.job.specs.Inside.Keys.{rules_of_keys}
 use Rattle.job.proofs.KeyRules.{read_rule, read_fits, rules_more}
 use Rattle.usefulness.specs.Sets.{any_rule}
-use Rattle.usefulness.specs.Inside.Flags.{Flags}
 use Rattle.usefulness.proofs.Raising.{flags_bits, flags_alike}
 use Rattle.usefulness.proofs.Tests.{any_rule_more}
-use Rattle.verdicts.specs.Verdicts.{is_named_lem}
 use Rattle.judging.proofs.codes.named_symbols.Goals as goal
 
 pub loop-k-init : goal.loop-k-init
@@ -15,9 +12,9 @@ loop-k-init c = (omega arith, flags_alike c.flag_one.ensures.flags (λ X _. simp
 
 pub name_rule-requires : goal.name_rule-requires
 name_rule-requires c = record {
-      rule = read_fits _ c.unpack.ensures.rule (c.requires.rules.fit _ c.loop-k-test.true);
-      flags = flags_bits c.loop-k.invariant.1;
-    }
+  rule = read_fits _ c.unpack.ensures.rule (c.requires.rules.fit _ c.loop-k-test.true);
+  flags = flags_bits c.loop-k.invariant.1;
+}
 
 pub loop-k-preserved : goal.loop-k-preserved
 loop-k-preserved c =
@@ -33,6 +30,6 @@ pub returns : goal.returns
 returns c =
     record {
       flags =
-    let keys = c.args.keys.now in
-    rw (take_all c.loop-k.k keys (omega arith)) at c.loop-k.invariant.1;
+          let keys = c.args.keys.now in
+          rw (take_all c.loop-k.k keys (omega arith)) at c.loop-k.invariant.1;
     }

@@ -1,7 +1,6 @@
-use Rattle.grammar.proofs.Basics.{◌≡◌, refl, ◌∙◌, Bool, cond, ℕ, ◌<◌, ◌≤◌, ◌-◌, arith, length, length-set}
+use Rattle.grammar.proofs.Basics.{◌≡◌, refl, ◌∙◌, ◌<◌, ◌≤◌, arith, length-set}
 use Rattle.job.specs.Written.{written}
 use Rattle.job.proofs.Filling.{written_more}
-use Rattle.usefulness.specs.Inside.Flags.{Flags}
 use Rattle.usefulness.proofs.Raising.{flags_test}
 use Rattle.judging.proofs.codes.write_codes.Invariants.{code}
 use Rattle.judging.proofs.codes.write_codes.Goals as goal
@@ -28,7 +27,7 @@ pub returns : goal.returns
 returns c =
     record {
       codes = λ n p u named productive useful.
-    let all : 64 ≤ c.loop-x.x = c.loop-x-test.false in
-    let e : c.loop-x.x ≡ 64 = omega arith in
-    rw e at (c.loop-x.invariant.2 n p u named productive useful);
+          let all : 64 ≤ c.loop-x.x = c.loop-x-test.false in
+          let e : c.loop-x.x ≡ 64 = omega arith in
+          rw e at (c.loop-x.invariant.2 n p u named productive useful);
     }

@@ -1,9 +1,7 @@
 -- `verdicts::codes::write_codes` meets its contract: the first x codes are written. Assumes nothing.
-use Rattle.grammar.proofs.Basics.{◌≡◌, refl, ◌∙◌, Bool, cond, ℕ, ◌<◌, ◌≤◌, ◌-◌, arith, length, length-set}
+use Rattle.grammar.proofs.Basics.{◌≡◌, Bool, cond, ℕ, ◌≤◌, ◌-◌, length}
 use Rattle.job.specs.Written.{written}
-use Rattle.job.proofs.Filling.{written_more}
 use Rattle.usefulness.specs.Inside.Flags.{Flags}
-use Rattle.usefulness.proofs.Raising.{flags_test}
 use Rattle.judging.proofs.codes.write_codes.Given as goal
 
 abbrev pub code : (ℕ → Bool) → (ℕ → Bool) → (ℕ → Bool) → ℕ → ℕ

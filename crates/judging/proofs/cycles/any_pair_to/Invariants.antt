@@ -1,11 +1,8 @@
 -- `verdicts::cycles::any_pair_to` meets its contract: none of the first k rules is such a rule. Assumes nothing.
-use Rattle.grammar.proofs.Basics.{◌≡◌, refl, sym, false, ◌≤◌, ◌-◌, arith, length, take}
-use lib.Seq.{take_all}
+use Rattle.grammar.proofs.Basics.{◌≡◌, false, ◌≤◌, ◌-◌, length, take}
 use Rattle.job.specs.Inside.Keys.{rules_of_keys}
-use Rattle.job.proofs.KeyRules.{read_fits}
 use Rattle.usefulness.specs.Sets.{any_rule}
 use Rattle.verdicts.specs.Inside.Cycles.{leads_back}
-use Rattle.verdicts.proofs.Cyclic.{pair_found, no_pair_more}
 use Rattle.judging.proofs.cycles.any_pair_to.Given as goal
 
 abbrev pub invariant-loop-k : goal.invariant-loop-k

@@ -1,8 +1,6 @@
-use Rattle.grammar.proofs.Basics.{◌≡◌, ◌∙◌, sym, false, ℕ, ◌<◌, ◌≤◌, ◌-◌, arith}
+use Rattle.grammar.proofs.Basics.{◌∙◌, sym, arith}
 use borrow.Author.Count.{below_none, below_more}
-use Rattle.job.specs.Inside.Keys.{rules_of_keys}
 use Rattle.job.proofs.KeyRules.{keys_in_range, head_below}
-use Rattle.verdicts.specs.Inside.Cycles.{cycle_at_lem}
 use Rattle.verdicts.proofs.Cyclic.{cyclic_found, cyclic_none}
 use Rattle.judging.proofs.cycles.cycle_at_any.Goals as goal
 
@@ -16,22 +14,21 @@ pub returns-then-cycle_at : goal.returns-then-cycle_at
 returns-then-cycle_at c =
     record {
       says =
-    sym (cyclic_found _ c.loop-a.a (sym c.cycle_at.ensures.says ∙ c.if-cycle_at.true));
+          sym (cyclic_found _ c.loop-a.a (sym c.cycle_at.ensures.says ∙ c.if-cycle_at.true));
     }
 
 pub loop-a-preserved : goal.loop-a-preserved
-loop-a-preserved c =
-    (
-      omega arith,
-      below_more _ c.loop-a.a c.loop-a.invariant.1 (sym c.cycle_at.ensures.says ∙ c.if-cycle_at.false),
-    )
+loop-a-preserved c = (
+  omega arith,
+  below_more _ c.loop-a.a c.loop-a.invariant.1 (sym c.cycle_at.ensures.says ∙ c.if-cycle_at.false),
+)
 
 pub returns : goal.returns
 returns c =
     record {
       says =
-    sym
-    (cyclic_none _
-    (λ ρ m. head_below ρ (keys_in_range c.args.keys.now c.requires.rules.fit ρ m))
-    (λ A h. c.loop-a.invariant.1 A (omega arith)));
+          sym
+          (cyclic_none _
+          (λ ρ m. head_below ρ (keys_in_range c.args.keys.now c.requires.rules.fit ρ m))
+          (λ A h. c.loop-a.invariant.1 A (omega arith)));
     }

@@ -1,11 +1,8 @@
 -- `verdicts::cycles::cycle_at_any` meets its contract: none of the first a variables heads a pair rule on a cycle that
 -- grows. Assumes nothing.
-use Rattle.grammar.proofs.Basics.{◌≡◌, ◌∙◌, sym, false, ℕ, ◌<◌, ◌≤◌, ◌-◌, arith}
-use borrow.Author.Count.{below_none, below_more}
+use Rattle.grammar.proofs.Basics.{◌≡◌, false, ℕ, ◌<◌, ◌≤◌, ◌-◌}
 use Rattle.job.specs.Inside.Keys.{rules_of_keys}
-use Rattle.job.proofs.KeyRules.{keys_in_range, head_below}
 use Rattle.verdicts.specs.Inside.Cycles.{cycle_at_lem}
-use Rattle.verdicts.proofs.Cyclic.{cyclic_found, cyclic_none}
 use Rattle.judging.proofs.cycles.cycle_at_any.Given as goal
 
 abbrev pub invariant-loop-a : goal.invariant-loop-a

@@ -9,5 +9,5 @@ pub returns : goal.returns
 returns c =
     record {
       says =
-    c.both-2.ensures.says ∙ sym (or_second _ _ (sym c.both.ensures.says ∙ c.if-both.false));
+          c.both-2.ensures.says ∙ sym (or_second _ _ (sym c.both.ensures.says ∙ c.if-both.false));
     }

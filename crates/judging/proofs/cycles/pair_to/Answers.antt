@@ -13,21 +13,21 @@ pub returns-then-rule-symbol : goal.returns-then-rule-symbol
 returns-then-rule-symbol c =
     record {
       says = rw (
-      pair_by_kind,
-      ne_eqb _ 69 c.if-rule-eq69.false,
-      ne_eqb _ 85 c.if-rule-eq85.false,
-      ne_eqb _ _ c.if-rule-symbol.true,
-    );
+        pair_by_kind,
+        ne_eqb _ 69 c.if-rule-eq69.false,
+        ne_eqb _ 85 c.if-rule-eq85.false,
+        ne_eqb _ _ c.if-rule-symbol.true,
+      );
     }
 
 pub returns : goal.returns
 returns c =
     record {
       says = rw (
-      pair_by_kind,
-      ne_eqb _ 69 c.if-rule-eq69.false,
-      ne_eqb _ 85 c.if-rule-eq85.false,
-      eq-eqb _ _ c.if-rule-symbol.false,
-    )
-    c.one_each.ensures.says;
+        pair_by_kind,
+        ne_eqb _ 69 c.if-rule-eq69.false,
+        ne_eqb _ 85 c.if-rule-eq85.false,
+        eq-eqb _ _ c.if-rule-symbol.false,
+      )
+          c.one_each.ensures.says;
     }

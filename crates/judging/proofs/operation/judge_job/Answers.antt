@@ -47,9 +47,9 @@ pub returns : goal.returns
 returns c =
     record {
       left =
-    let job = c.args.job.now in
-    left (job_of job) c.args.table.now c.args.codes.now
-    (rules_lent c.requires.accepted _ _ c.sorted_rules-n.ensures.count c.sorted_rules-n.ensures.sorted)
-    (c.field_of-start.ensures.field ∙ sym (job_start job)) c.clear_table.ensures.cleared
-    c.judge.ensures.answer c.judge.ensures.codes;
+          let job = c.args.job.now in
+          left (job_of job) c.args.table.now c.args.codes.now
+          (rules_lent c.requires.accepted _ _ c.sorted_rules-n.ensures.count c.sorted_rules-n.ensures.sorted)
+          (c.field_of-start.ensures.field ∙ sym (job_start job)) c.clear_table.ensures.cleared
+          c.judge.ensures.answer c.judge.ensures.codes;
     }

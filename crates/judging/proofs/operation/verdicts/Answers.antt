@@ -16,7 +16,7 @@ pub returns : goal.returns
 returns c =
     record {
       left =
-    let e = c.verdicts_check-c.ensures.checked in
-    c.judge_job.ensures.left
-    ∙ sym (verdicts_given _ _ _ (rw e at c.if-c-ne0.false));
+          let e = c.verdicts_check-c.ensures.checked in
+          c.judge_job.ensures.left
+          ∙ sym (verdicts_given _ _ _ (rw e at c.if-c-ne0.false));
     }

@@ -8,5 +8,5 @@ unfolding verdicts_check_by
 returns c =
     record {
       checked =
-    rw (c.or_else-short.ensures.checked, c.short_buffer-table_short.ensures.checked, c.short_buffer.ensures.checked) at c.call_check.ensures.checked;
+          rw (c.or_else-short.ensures.checked, c.short_buffer-table_short.ensures.checked, c.short_buffer.ensures.checked) at c.call_check.ensures.checked;
     }
