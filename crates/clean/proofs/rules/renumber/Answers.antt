@@ -1,12 +1,11 @@
 -- `rules::renumber`: the record of each of the three shapes. Assumes nothing.
-use Rattle.grammar.proofs.Basics.{◌≡◌, List, ℕ, eq-eqb, ne_eqb, needs}
+use Rattle.grammar.proofs.Basics.{◌≡◌, List, ℕ, eq-eqb, ne_eqb}
 use Rattle.job.specs.Format.{byte_e, byte_u}
 use Rattle.job.specs.Job.{empty_record, unit_record, pair_record}
 use Rattle.job.specs.declared.RuleFields as declared
 use Rattle.job.specs.Inside.Keys.{rule_from}
 use Rattle.copies.specs.Inside.Parts.{number_in, renumbered_record}
-use Rattle.clean.proofs.rules.renumber.Statement.{statement}
-use Rattle.clean.proofs.rules.renumber.Tie as tie
+use Rattle.clean.proofs.rules.renumber.Goals as goal
 
 module _ (numbers : List ℕ) (r : declared.RuleFields) where
   of_empty : r.kind ≡ byte_e → empty_record (number_in numbers r.head) ≡ renumbered_record numbers (rule_from r)
@@ -27,6 +26,11 @@ module _ (numbers : List ℕ) (r : declared.RuleFields) where
 
 ruleset ways = (of_empty, of_unit, of_pair)
 
-pub renumber_spec : {M : Type 1} → statement M
-renumber_spec = tie.close (tie.spec (λ c. search needs) (λ c. search needs) (λ c. search ways) (λ c. search needs)
-    (λ c. search needs) (λ c. search ways) (λ c. search needs) (λ c. search needs) (λ c. search ways))
+pub returns-then-rule-eq69 : goal.returns-then-rule-eq69
+returns-then-rule-eq69 c = record { «record» = search ways }
+
+pub returns-then-rule-eq85 : goal.returns-then-rule-eq85
+returns-then-rule-eq85 c = record { «record» = search ways }
+
+pub returns : goal.returns
+returns c = record { «record» = search ways }

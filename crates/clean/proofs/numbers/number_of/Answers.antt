@@ -1,7 +1,6 @@
 -- `numbers::number_of`: the test is the definition's. Assumes nothing.
-use Rattle.grammar.proofs.Basics.{◌≡◌, true, false, Bool, cond, ℕ, ltb, needs}
-use Rattle.clean.proofs.numbers.number_of.Statement.{statement}
-use Rattle.clean.proofs.numbers.number_of.Tie as tie
+use Rattle.grammar.proofs.Basics.{◌≡◌, true, false, Bool, cond, ℕ, ltb}
+use Rattle.clean.proofs.numbers.number_of.Goals as goal
 
 module _ (x below : ℕ) (test : Bool) (is : test ≡ ltb x 32) where
   of_variable : test ≡ true → below ≡ cond (ltb x 32) below x
@@ -12,5 +11,8 @@ module _ (x below : ℕ) (test : Bool) (is : test ≡ ltb x 32) where
 
 ruleset ways = (of_variable, of_terminal)
 
-pub number_of_spec : {M : Type 1} → statement M
-number_of_spec = tie.close (tie.spec (λ c κs. search needs) (λ c. search ways) (λ c. search ways))
+pub returns-then-is_variable : goal.returns-then-is_variable
+returns-then-is_variable c = record { number = search ways }
+
+pub returns : goal.returns
+returns c = record { number = search ways }
