@@ -1,4 +1,4 @@
-use Rattle.grammar.proofs.Basics.{◌≡◌, refl, ◌∙◌, ap, ℕ, ◌≤◌, ◌+◌, ◌-◌, arith, length, replicate, cond, ltb}
+use Rattle.grammar.proofs.Basics.{◌≡◌, refl, ◌∙◌, ap, ℕ, ◌+◌, arith, length, replicate, cond, ltb}
 use Rattle.grammar.specs.Counting.{count}
 use Rattle.grammar.proofs.Counting.{count_bound}
 use Rattle.job.specs.Written.{written}
@@ -43,10 +43,10 @@ pub returns : goal.returns
 returns c =
     record {
       numbers =
-    let e : c.loop-x.x ≡ 64 = omega arith in
-    rw (c.loop-x.invariant.2, e)
-    record {
-      long = written_long _ 0 64 (replicate 64 0);
-      at = λ X h. written_at _ 64 (replicate 64 0) X h (omega arith);
-    };
+          let e : c.loop-x.x ≡ 64 = omega arith in
+          rw (c.loop-x.invariant.2, e)
+          record {
+            long = written_long _ 0 64 (replicate 64 0);
+            at = λ X h. written_at _ 64 (replicate 64 0) X h (omega arith);
+          };
     }

@@ -1,12 +1,9 @@
 -- `numbers::number_symbols`. The invariant: the first x numbers are written, and so many useful variables are below x.
 -- Assumes nothing.
-use Rattle.grammar.proofs.Basics.{◌≡◌, refl, ◌∙◌, ap, ℕ, ◌≤◌, ◌+◌, ◌-◌, arith, length, replicate, cond, ltb}
+use Rattle.grammar.proofs.Basics.{◌≡◌, ◌≤◌, ◌-◌, replicate}
 use Rattle.grammar.specs.Counting.{count}
-use Rattle.grammar.proofs.Counting.{count_bound}
 use Rattle.job.specs.Written.{written}
-use Rattle.job.proofs.Filling.{written_long, written_more, written_at}
 use Rattle.usefulness.specs.Inside.Flags.{flagged}
-use Rattle.usefulness.proofs.Raising.{counted_more}
 use Rattle.copies.specs.Copy.{new_number}
 use Rattle.clean.proofs.numbers.number_symbols.Given as goal
 

@@ -22,16 +22,16 @@ slice_bounds-copy_rules-end c =
 
 pub copy_rules-requires : goal.copy_rules-requires
 copy_rules-requires c = record {
-      rules = keys_lent c.requires.accepted _ _ c.sorted_rules-n.ensures.count c.sorted_rules-n.ensures.sorted;
-      start = omega (arith, c.field_of-start.ensures.field, job_start c.args.job.now, start_below c.requires.accepted);
-    }
+  rules = keys_lent c.requires.accepted _ _ c.sorted_rules-n.ensures.count c.sorted_rules-n.ensures.sorted;
+  start = omega (arith, c.field_of-start.ensures.field, job_start c.args.job.now, start_below c.requires.accepted);
+}
 
 pub returns : goal.returns
 returns c =
     record {
       left =
-    let job = c.args.job.now in
-    by_the_job job c.args.out.now
-    (rules_lent c.requires.accepted _ _ c.sorted_rules-n.ensures.count c.sorted_rules-n.ensures.sorted)
-    (c.field_of-start.ensures.field ∙ sym (job_start job)) c.copy_rules.ensures.left;
+          let job = c.args.job.now in
+          by_the_job job c.args.out.now
+          (rules_lent c.requires.accepted _ _ c.sorted_rules-n.ensures.count c.sorted_rules-n.ensures.sorted)
+          (c.field_of-start.ensures.field ∙ sym (job_start job)) c.copy_rules.ensures.left;
     }

@@ -18,17 +18,17 @@ pub returns-then-c-ne0 : goal.returns-then-c-ne0
 returns-then-c-ne0 c =
     record {
       left =
-    let k = c.keep_rules-m.ensures in
-    rw c.refusal.ensures.refusal
-    (room_refused _ _ k.kept (k.rules _ c.useful_symbols.ensures.flags) c.args.out.now _ c.room_check-c.ensures.checked
-    c.if-c-ne0.true);
+          let k = c.keep_rules-m.ensures in
+          rw c.refusal.ensures.refusal
+          (room_refused _ _ k.kept (k.rules _ c.useful_symbols.ensures.flags) c.args.out.now _ c.room_check-c.ensures.checked
+          c.if-c-ne0.true);
     }
 
 pub number_symbols-requires : goal.number_symbols-requires
 number_symbols-requires c =
     record {
       flags =
-    flags_bits c.useful_symbols.ensures.flags;
+          flags_bits c.useful_symbols.ensures.flags;
     }
 
 pub renumber_keys-requires : goal.renumber_keys-requires
@@ -39,21 +39,21 @@ pub write_grammar-requires : goal.write_grammar-requires
 write_grammar-requires c =
     record {
       room =
-    let m = c.keep_rules-m.result in
-    let out = c.args.out.now in
-    let passed : (room_check (m + 1) (length out)).number ≡ 0 = rw (← c.room_check-c.ensures.checked) c.if-c-ne0.false in
-    room_for_taken m (length out) _ (room_fits (m + 1) (length out) passed);
+          let m = c.keep_rules-m.result in
+          let out = c.args.out.now in
+          let passed : (room_check (m + 1) (length out)).number ≡ 0 = rw (← c.room_check-c.ensures.checked) c.if-c-ne0.false in
+          room_for_taken m (length out) _ (room_fits (m + 1) (length out) passed);
     }
 
 pub returns : goal.returns
 returns c =
     record {
       left =
-    let k = c.keep_rules-m.ensures in
-    let m = c.keep_rules-m.result in
-    let out = c.args.out.now in
-    let passed : (room_check (m + 1) (length out)).number ≡ 0 = rw (← c.room_check-c.ensures.checked) c.if-c-ne0.false in
-    all_copied _ _ k.kept (k.rules _ c.useful_symbols.ensures.flags) out (keys_below c.requires.rules) c.requires.start _ _
-    c.useful_symbols.ensures.flags c.number_symbols.ensures.numbers _ _ passed c.renumber_keys.ensures.keys
-    c.write_grammar.ensures.written;
+          let k = c.keep_rules-m.ensures in
+          let m = c.keep_rules-m.result in
+          let out = c.args.out.now in
+          let passed : (room_check (m + 1) (length out)).number ≡ 0 = rw (← c.room_check-c.ensures.checked) c.if-c-ne0.false in
+          all_copied _ _ k.kept (k.rules _ c.useful_symbols.ensures.flags) out (keys_below c.requires.rules) c.requires.start _ _
+          c.useful_symbols.ensures.flags c.number_symbols.ensures.numbers _ _ passed c.renumber_keys.ensures.keys
+          c.write_grammar.ensures.written;
     }

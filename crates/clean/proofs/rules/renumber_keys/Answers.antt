@@ -1,4 +1,4 @@
-use Rattle.grammar.proofs.Basics.{◌≡◌, refl, ◌∙◌, ap, List, map, ℕ, ◌<◌, ◌≤◌, ◌+◌, ◌-◌, add-one, arith, length, get_or}
+use Rattle.grammar.proofs.Basics.{◌≡◌, refl, ◌∙◌, ap, List, map, ℕ, ◌<◌, ◌+◌, add-one, arith, length, get_or}
 use Rattle.grammar.proofs.Basics.{take, set, length-set}
 use lib.Seq.{take-suc-set, take_all}
 use Rattle.job.specs.Job.{sort_key_lem}
@@ -18,7 +18,7 @@ pub renumber-r-requires : goal.renumber-r-requires
 renumber-r-requires c =
     record {
       rule =
-    read_fits _ c.unpack.ensures.rule (c.requires.rules.fit _ c.loop-k-test.true);
+          read_fits _ c.unpack.ensures.rule (c.requires.rules.fit _ c.loop-k-test.true);
     }
 
 pub loop-k-preserved : goal.loop-k-preserved
@@ -41,8 +41,8 @@ pub returns : goal.returns
 returns c =
     record {
       keys =
-    let l = c.loop-k in
-    let kept = c.args.kept.now in
-    let e : l.k ≡ length kept = omega arith in
-    rw (e, take_all (length kept) kept (omega arith)) at l.invariant.2;
+          let l = c.loop-k in
+          let kept = c.args.kept.now in
+          let e : l.k ≡ length kept = omega arith in
+          rw (e, take_all (length kept) kept (omega arith)) at l.invariant.2;
     }

@@ -1,11 +1,8 @@
 -- `rules::renumber_keys`. The invariant: the first k keys are those of the first k rules under new numbers. Assumes
 -- nothing.
-use Rattle.grammar.proofs.Basics.{◌≡◌, refl, ◌∙◌, ap, List, map, ℕ, ◌<◌, ◌≤◌, ◌+◌, ◌-◌, add-one, arith, length, get_or}
-use Rattle.grammar.proofs.Basics.{take, set, length-set}
-use lib.Seq.{take-suc-set, take_all}
-use Rattle.job.specs.Job.{sort_key_lem}
-use Rattle.job.proofs.KeyRules.{read_rule, read_fits, mapped_more}
-use Rattle.copies.specs.Inside.Parts.{renumbered_record, renumbered_key}
+use Rattle.grammar.proofs.Basics.{◌≡◌, map, ◌≤◌, ◌-◌, length}
+use Rattle.grammar.proofs.Basics.{take}
+use Rattle.copies.specs.Inside.Parts.{renumbered_key}
 use Rattle.clean.proofs.rules.renumber_keys.Given as goal
 
 abbrev pub invariant-loop-k : goal.invariant-loop-k
