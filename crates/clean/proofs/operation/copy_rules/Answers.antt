@@ -1,5 +1,5 @@
--- `operation::copy_rules`: the flags hold the useful symbols, so that the rules kept and the numbers are those of the clean
--- copy, and the check of room is by its length. Assumes nothing.
+-- `operation::copy_rules`: the flags hold the useful symbols, so that the rules kept and the numbers are those of the
+-- clean copy, and the check of room is by its length. Assumes nothing.
 use Rattle.grammar.proofs.Basics.{◌≡◌, List, ℕ, ◌≤◌, ◌+◌, ◌*◌, ◌-◌, arith, length, take, length-take}
 use native.Mathlib.Nat.{sub-zero}
 use Rattle.job.specs.Check.{room_check}
@@ -20,8 +20,8 @@ returns-then-c-ne0 c =
       left =
           let k = c.keep_rules-m.ensures in
           rw c.refusal.ensures.refusal
-          (room_refused _ _ k.kept (k.rules _ c.useful_symbols.ensures.flags) c.args.out.now _ c.room_check-c.ensures.checked
-          c.if-c-ne0.true);
+          (room_refused _ _ k.kept (k.rules _ c.useful_symbols.ensures.flags) c.args.out.now _
+          c.room_check-c.ensures.checked c.if-c-ne0.true);
     }
 
 pub number_symbols-requires : goal.number_symbols-requires
@@ -41,7 +41,8 @@ write_grammar-requires c =
       room =
           let m = c.keep_rules-m.result in
           let out = c.args.out.now in
-          let passed : (room_check (m + 1) (length out)).number ≡ 0 = rw (← c.room_check-c.ensures.checked) c.if-c-ne0.false in
+          let passed : (room_check (m + 1) (length out)).number ≡ 0
+          = rw (← c.room_check-c.ensures.checked) c.if-c-ne0.false in
           room_for_taken m (length out) _ (room_fits (m + 1) (length out) passed);
     }
 
@@ -52,8 +53,10 @@ returns c =
           let k = c.keep_rules-m.ensures in
           let m = c.keep_rules-m.result in
           let out = c.args.out.now in
-          let passed : (room_check (m + 1) (length out)).number ≡ 0 = rw (← c.room_check-c.ensures.checked) c.if-c-ne0.false in
-          all_copied _ _ k.kept (k.rules _ c.useful_symbols.ensures.flags) out (keys_below c.requires.rules) c.requires.start _ _
+          let passed : (room_check (m + 1) (length out)).number ≡ 0
+          = rw (← c.room_check-c.ensures.checked) c.if-c-ne0.false in
+          all_copied _ _ k.kept (k.rules _ c.useful_symbols.ensures.flags) out (keys_below c.requires.rules)
+          c.requires.start _ _
           c.useful_symbols.ensures.flags c.number_symbols.ensures.numbers _ _ passed c.renumber_keys.ensures.keys
           c.write_grammar.ensures.written;
     }

@@ -23,7 +23,8 @@ loop-k-preserved c =
     let more = rules_more keys k c.loop-k-test.true in
     let read = read_rule (get_or keys k 0) c.unpack.ensures.rule in (
       omega arith,
-      flags_alike (c.name_rule.ensures.flags _ c.loop-k.invariant.1) (λ X _. rw (more, any_rule_more, ← read, or_assoc)),
+      flags_alike (c.name_rule.ensures.flags _ c.loop-k.invariant.1)
+          (λ X _. rw (more, any_rule_more, ← read, or_assoc)),
     )
 
 pub returns : goal.returns

@@ -7,7 +7,8 @@ use Rattle.judging.proofs.cycles.any_pair_to.Given as goal
 
 abbrev pub invariant-loop-k : goal.invariant-loop-k
 invariant-loop-k l =
-    (l.k ≤ length l.keys) × (any_rule (leads_back (rules_of_keys l.keys) l.symbol) (rules_of_keys (take l.k l.keys)) ≡ false)
+    (l.k ≤ length l.keys)
+    × (any_rule (leads_back (rules_of_keys l.keys) l.symbol) (rules_of_keys (take l.k l.keys)) ≡ false)
 
 abbrev pub decreases-loop-k : goal.decreases-loop-k
 decreases-loop-k l = length l.keys - l.k

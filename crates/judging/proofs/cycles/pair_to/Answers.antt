@@ -7,7 +7,10 @@ pub returns-then-rule-eq69 : goal.returns-then-rule-eq69
 returns-then-rule-eq69 c = record { says = rw (pair_by_kind, eq-eqb _ 69 c.if-rule-eq69.true) }
 
 pub returns-then-rule-eq85 : goal.returns-then-rule-eq85
-returns-then-rule-eq85 c = record { says = rw (pair_by_kind, ne_eqb _ 69 c.if-rule-eq69.false, eq-eqb _ 85 c.if-rule-eq85.true) }
+returns-then-rule-eq85 c =
+    record {
+      says = rw (pair_by_kind, ne_eqb _ 69 c.if-rule-eq69.false, eq-eqb _ 85 c.if-rule-eq85.true);
+    }
 
 pub returns-then-rule-symbol : goal.returns-then-rule-symbol
 returns-then-rule-symbol c =

@@ -5,7 +5,10 @@ use Rattle.verdicts.proofs.Outcome.{unrefused, verdicts_given, verdicts_refused_
 use Rattle.judging.proofs.operation.verdicts.Goals as goal
 
 pub returns-then-c-ne0 : goal.returns-then-c-ne0
-returns-then-c-ne0 c = record { left = sym (verdicts_refused_lem _ _ _ _ c.verdicts_check-c.ensures.checked c.if-c-ne0.true) }
+returns-then-c-ne0 c =
+    record {
+      left = sym (verdicts_refused_lem _ _ _ _ c.verdicts_check-c.ensures.checked c.if-c-ne0.true);
+    }
 
 pub judge_job-requires : goal.judge_job-requires
 judge_job-requires c = let e = c.verdicts_check-c.ensures.checked in
