@@ -1,4 +1,5 @@
 -- `walk::convert_next`: the record is converted, then 14, 5 and 7 are tried. Assumes nothing.
+use Rattle.grammar.proofs.Basics.{arith}
 use Rattle.long_jobs.specs.Walk.{next_free}
 use Rattle.long_jobs.proofs.WalkSteps.{stepped_too_far, part_ready, stepped}
 use Rattle.binarize.proofs.walk.convert_next.Goals as goal
@@ -7,7 +8,7 @@ pub returns-then-available-p : goal.returns-then-available-p
 returns-then-available-p c =
     let r = c.convert-p.ensures.reached in
     record {
-      stepped = stepped_too_far _ _ (next_free c.args.free.now) _ _ _ c.requires.underway _ _ r c.if-available-p.true;
+      stepped = stepped_too_far _ _ (next_free c.args.free.now) _ _ _ c.requires.underway _ _ r (omega arith);
       size = r.out_size;
     }
 
