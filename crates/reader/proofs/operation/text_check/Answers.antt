@@ -7,8 +7,7 @@ use Rattle.abnf.specs.declared.Edition.{Edition}
 use Rattle.abnf.specs.declared.Fault.{Fault}
 use Rattle.abnf.specs.Reading.{fault_of}
 use Rattle.abnf_jobs.specs.Operation.{text_check_lem, fault_check_lem}
-use Rattle.reader.proofs.operation.text_check.Statement.{statement}
-use Rattle.reader.proofs.operation.text_check.Tie as tie
+use Rattle.reader.proofs.operation.text_check.Goals as goal
 
 module _ (e : Edition) (text : List ℕ) (map : ℕ) where
   abbrev checks : Checked
@@ -26,7 +25,11 @@ module _ (e : Edition) (text : List ℕ) (map : ℕ) where
 
 ruleset ways = (short_map, long_text, by_scan)
 
-pub text_check_spec : {M : Type 1} → statement M
-text_check_spec =
-    tie.close
-    (tie.spec (λ c. search ways) (λ c. search ways) (λ c κs. tt) (λ c κs. tt) (λ c. search ways))
+pub returns-then-map-lt32 : goal.returns-then-map-lt32
+returns-then-map-lt32 c = record { checked = search ways }
+
+pub returns-then-text-gt16384 : goal.returns-then-text-gt16384
+returns-then-text-gt16384 c = record { checked = search ways }
+
+pub returns : goal.returns
+returns c = record { checked = search ways }

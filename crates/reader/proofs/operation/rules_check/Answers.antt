@@ -1,11 +1,10 @@
 -- `operation::rules_check`: 7 comes first, then the check of room. Assumes nothing.
-use Rattle.grammar.proofs.Basics.{◌≡◌, ℕ, ◌<◌, ◌≤◌, ◌+◌, lt-ltb, le-ltb, arith}
+use Rattle.grammar.proofs.Basics.{◌≡◌, ℕ, ◌<◌, ◌≤◌, ◌+◌, lt-ltb, le-ltb}
 use Rattle.job.specs.declared.Checked.{Checked}
 use Rattle.job.specs.Records.{refused, or_else}
 use Rattle.job.specs.Check.{room_check}
 use Rattle.abnf_jobs.specs.Operation.{rules_check_lem}
-use Rattle.reader.proofs.operation.rules_check.Statement.{statement}
-use Rattle.reader.proofs.operation.rules_check.Tie as tie
+use Rattle.reader.proofs.operation.rules_check.Goals as goal
 
 module _ (rules room : ℕ) where
   many_rules : 256 < rules → refused 7 257 ≡ or_else (rules_check_lem rules) (room_check (rules + 1) room)
@@ -17,7 +16,8 @@ module _ (rules room : ℕ) where
 
 ruleset ways = (many_rules, by_room)
 
-pub rules_check_spec : {M : Type 1} → statement M
-rules_check_spec =
-    tie.close
-    (tie.spec (λ c. omega arith) (λ c. search ways) (λ c. omega arith) (λ c κs. omega arith) (λ c. search ways))
+pub returns-then-rules-gt-RULES : goal.returns-then-rules-gt-RULES
+returns-then-rules-gt-RULES c = record { checked = search ways }
+
+pub returns : goal.returns
+returns c = record { checked = search ways }

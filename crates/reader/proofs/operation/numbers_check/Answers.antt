@@ -2,8 +2,7 @@
 use Rattle.grammar.proofs.Basics.{◌≡◌, ℕ, ◌<◌, ◌≤◌, lt-ltb, le-ltb}
 use Rattle.job.specs.Records.{refused, accepted}
 use Rattle.abnf_jobs.specs.Operation.{numbers_check_lem}
-use Rattle.reader.proofs.operation.numbers_check.Statement.{statement}
-use Rattle.reader.proofs.operation.numbers_check.Tie as tie
+use Rattle.reader.proofs.operation.numbers_check.Goals as goal
 
 module _ (variables characters : ℕ) where
   many_variables : 32 < variables → refused 18 1 ≡ numbers_check_lem variables characters
@@ -17,5 +16,11 @@ module _ (variables characters : ℕ) where
 
 ruleset ways = (many_variables, many_characters, few_enough)
 
-pub numbers_check_spec : {M : Type 1} → statement M
-numbers_check_spec = tie.close (tie.spec (λ c. search ways) (λ c. search ways) (λ c. search ways))
+pub returns-then-variables-gt32 : goal.returns-then-variables-gt32
+returns-then-variables-gt32 c = record { checked = search ways }
+
+pub returns-then-characters-gt32 : goal.returns-then-characters-gt32
+returns-then-characters-gt32 c = record { checked = search ways }
+
+pub returns : goal.returns
+returns c = record { checked = search ways }
