@@ -34,6 +34,7 @@ returns c =
     record {
       copied =
           written_four _ _ (λ i w. RowIs (column_of c.args.there (table_of_bits c.args.bits.now)) (c.args.k + i) w)
-          (omega arith) (rw add-zero c.column_row-first.ensures.row) c.column_row-second.ensures.row c.column_row-third.ensures.row
+          (omega arith) (rw add-zero c.column_row-first.ensures.row) c.column_row-second.ensures.row
+              c.column_row-third.ensures.row
           c.column_row-fourth.ensures.row;
     }
