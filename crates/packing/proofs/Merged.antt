@@ -1,8 +1,11 @@
 -- Bits merged into bytes: the ones of a word are written one by one; a byte that is written is 1 or 2 where its place
 -- says something new, and what is not written says what it said. Assumes nothing.
-use Rattle.grammar.proofs.Basics.{◌≡◌, refl, ◌∙◌, sym, ap, ap₂, true, false, false≢true, Bool, ◌&&◌, not, cond, List, ℕ}
-use Rattle.grammar.proofs.Basics.{◌<◌, ◌≤◌, ◌+◌, ◌*◌, ◌/◌, ◌%◌, ◌-◌, arith, eqb, ltb, leb, length, get_or, set, take, drop}
-use Rattle.grammar.proofs.Basics.{length-set, get_or-set_same, get_or-set_other, eqb-true, eqb-false, eq-eqb, ne_eqb, ltb-true}
+use Rattle.grammar.proofs.Basics.{◌≡◌, refl, ◌∙◌, sym, ap, ap₂, true, false, false≢true, Bool, ◌&&◌, not, cond, List}
+use Rattle.grammar.proofs.Basics.{ℕ}
+use Rattle.grammar.proofs.Basics.{◌<◌, ◌≤◌, ◌+◌, ◌*◌, ◌/◌, ◌%◌, ◌-◌, arith, eqb, ltb, leb, length, get_or, set, take}
+use Rattle.grammar.proofs.Basics.{drop}
+use Rattle.grammar.proofs.Basics.{length-set, get_or-set_same, get_or-set_other, eqb-true, eqb-false, eq-eqb, ne_eqb}
+use Rattle.grammar.proofs.Basics.{ltb-true}
 use Rattle.grammar.proofs.Basics.{ltb-false, leb-true, leb-false, cases, and-false, and-true}
 use lib.Bits.{bit_and}
 use mir.Val.{bool_byte}
@@ -10,7 +13,8 @@ use Rattle.machine.specs.Table.{table_size, Status, byte_status, says_absent, sa
 use Rattle.machine.specs.Table.{is_done_lem, statuses}
 use Rattle.machine.specs.Theorems.Bytes.{byte_for, rewritten}
 use Rattle.machine.proofs.Tables.Each.{each_is}
-use Rattle.bit_machine.specs.BitTable.{half_size, pending_half, done_half, bit_of, bit_at, bit_status, bit_statuses, table_of_bits}
+use Rattle.bit_machine.specs.BitTable.{half_size, pending_half, done_half, bit_of, bit_at, bit_status, bit_statuses}
+use Rattle.bit_machine.specs.BitTable.{table_of_bits}
 use Rattle.bit_machine.specs.Inside.Word.{First, WithoutFirst}
 use Rattle.bit_machine.proofs.BitLaws.{bit_and_lem, bit_not, bit_zero}
 use Rattle.bit_machine.proofs.ByteTables.{byte_pending, byte_done}
@@ -95,13 +99,15 @@ same_byte Status.pending b e = rw e
 same_byte Status.done b e = rw e
 
 -- `a & !b`, bit by bit
-pub bit_new : (a b j : ℕ) → b < 4294967296 → j < 32 → bit_of (bit_and a (4294967295 - b)) j ≡ (bit_of a j && not (bit_of b j))
+pub bit_new : (a b j : ℕ) → b < 4294967296 → j < 32 →
+    bit_of (bit_and a (4294967295 - b)) j ≡ (bit_of a j && not (bit_of b j))
 bit_new a b j l h = bit_and_lem a (4294967295 - b) j ∙ ap (λ x. bit_of a j && x) (bit_not 32 b j l h)
 
 -- bytes that are counted where they differ
 pub still_same : (a b : List ℕ) (different i : ℕ) →
     (different ≡ 0 → (k : ℕ) → k < i → get_or a k 0 ≡ get_or b k 0) →
-    different + bool_byte (not (eqb (get_or a i 0) (get_or b i 0))) ≡ 0 → (k : ℕ) → k < i + 1 → get_or a k 0 ≡ get_or b k 0
+    different + bool_byte (not (eqb (get_or a i 0) (get_or b i 0))) ≡ 0 → (k : ℕ) → k < i + 1 →
+        get_or a k 0 ≡ get_or b k 0
 still_same a b different i before z k h =
     cases (eqb k i)
     (λ e. rw (eqb-true k i e) (cases (eqb (get_or a i 0) (get_or b i 0))

@@ -1,8 +1,10 @@
 -- Bytes packed into bits: a word gets one bit more, a row is written as two words, and rows whose bytes are all 0 need
 -- no writing where no place has a bit. Assumes nothing.
 use Rattle.grammar.proofs.Basics.{◌≡◌, refl, ◌∙◌, sym, ap, ap₂, ◌⊎◌, inl, inr, ⊎_elim, true, false, Bool, ◌&&◌, ◌||◌}
-use Rattle.grammar.proofs.Basics.{cond, List, ℕ, ◌<◌, ◌≤◌, ◌+◌, ◌*◌, ◌/◌, ◌%◌, ◌-◌, arith, eqb, ltb, get_or, take, drop}
-use Rattle.grammar.proofs.Basics.{replicate, get_or-take, eqb-true, eqb-false, ne_eqb, lt-ltb, le-ltb, ltb-true, ltb-false}
+use Rattle.grammar.proofs.Basics.{cond, List, ℕ, ◌<◌, ◌≤◌, ◌+◌, ◌*◌, ◌/◌, ◌%◌, ◌-◌, arith, eqb, ltb, get_or, take}
+use Rattle.grammar.proofs.Basics.{drop}
+use Rattle.grammar.proofs.Basics.{replicate, get_or-take, eqb-true, eqb-false, ne_eqb, lt-ltb, le-ltb, ltb-true}
+use Rattle.grammar.proofs.Basics.{ltb-false}
 use Rattle.grammar.proofs.Basics.{cases, or-false, or-true, or_assoc, and-true, and-false, and_false_right, same_test}
 use Rattle.grammar.proofs.Basics.{eq-eqb}
 use Prim.Native.Nat.{◌^◌}
@@ -10,7 +12,8 @@ use lib.Bits.{bit_or, or_zero_r, or_comm}
 use lib.ListN.{get_or-replicate}
 use lib.Seq.{get_or-drop}
 use mir.Val.{bool_byte}
-use Rattle.machine.specs.Table.{lent_of, table_size, Status, says_pending, says_done, byte_status, is_pending_lem, is_done_lem}
+use Rattle.machine.specs.Table.{lent_of, table_size, Status, says_pending, says_done, byte_status, is_pending_lem}
+use Rattle.machine.specs.Table.{is_done_lem}
 use Rattle.machine.specs.Table.{statuses}
 use Rattle.bit_machine.specs.BitTable.{half_size, pending_half, done_half, bit_of, bit_at, bit_status, bit_statuses}
 use Rattle.bit_machine.specs.Alike.{Alike}
@@ -53,7 +56,8 @@ status_again Status.done = refl
 
 -- more rows count as packed where their bytes are 0; so does another test of the same rows
 pub packed_more : {rows : ℕ → Bool} (rows' : ℕ → Bool) {table bits : List ℕ} → PackedRows rows table bits →
-    ((p : ℕ) → p < table_size → (rows (p / 32) ≡ rows' (p / 32)) ⊎ (get_or table p 0 ≡ 0)) → PackedRows rows' table bits
+    ((p : ℕ) → p < table_size → (rows (p / 32) ≡ rows' (p / 32)) ⊎ (get_or table p 0 ≡ 0)) →
+        PackedRows rows' table bits
 packed_more {rows} rows' {table} packed same =
     record {
       pending = λ p l. packed.pending p l ∙ either is_pending_lem refl p (same p l);

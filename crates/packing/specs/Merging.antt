@@ -12,7 +12,8 @@ pub record OnesWritten (before after : List ℕ) (k ones byte : ℕ) : Type 0 wh
 -- what can be merged into a table: the old bits say what it says, and no place that is there is absent in the new ones
 pub record Merges (old new table : List ℕ) : Type 0 where
   pub says : (p : ℕ) → p < table_size → bit_statuses old p ≡ statuses table p
-  pub there : (p : ℕ) → p < table_size → is_absent_at (bit_statuses new) p ≡ true → is_absent_at (bit_statuses old) p ≡ true
+  pub there : (p : ℕ) → p < table_size → is_absent_at (bit_statuses new) p ≡ true →
+      is_absent_at (bit_statuses old) p ≡ true
 
 -- the first k rows say what the new bits say, in the bytes that did before
 pub record RowsMerged (new : List ℕ) (k : ℕ) (before after : List ℕ) : Type 0 where

@@ -9,5 +9,6 @@ Says test table k word = (j : ℕ) → j < 32 → bit_of word j ≡ test (get_or
 
 -- in some rows each place has the bit that its byte says; in the others no place has a bit
 pub record PackedRows (rows : ℕ → Bool) (table bits : List ℕ) : Type 0 where
-  pub pending : (p : ℕ) → p < table_size → bit_at bits pending_half p ≡ (rows (p / 32) && is_pending_lem (get_or table p 0))
+  pub pending : (p : ℕ) → p < table_size →
+      bit_at bits pending_half p ≡ (rows (p / 32) && is_pending_lem (get_or table p 0))
   pub done : (p : ℕ) → p < table_size → bit_at bits done_half p ≡ (rows (p / 32) && is_done_lem (get_or table p 0))

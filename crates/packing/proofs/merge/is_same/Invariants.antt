@@ -1,7 +1,6 @@
 -- `merge::is_same` meets its contract. The loop's invariant: where none was counted, the bytes passed are equal.
 -- Assumes nothing.
-use Rattle.grammar.proofs.Basics.{◌≡◌, not, ℕ, ◌<◌, ◌≤◌, ◌-◌, arith, eqb, get_or, eqb-true}
-use Rattle.packing.proofs.Merged.{still_same, one_different}
+use Rattle.grammar.proofs.Basics.{◌≡◌, ℕ, ◌<◌, ◌≤◌, ◌-◌, get_or}
 use Rattle.packing.proofs.merge.is_same.Given as goal
 
 abbrev pub invariant-loop-i : goal.invariant-loop-i

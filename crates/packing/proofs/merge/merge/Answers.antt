@@ -1,5 +1,4 @@
-use Rattle.grammar.proofs.Basics.{◌≡◌, ◌≤◌, ◌*◌, ◌-◌, arith}
-use Rattle.packing.specs.Merging.{RowsMerged}
+use Rattle.grammar.proofs.Basics.{◌≡◌, ◌*◌, arith}
 use Rattle.packing.proofs.Merged.{none_merged, all_merged}
 use Rattle.packing.proofs.merge.merge.Goals as goal
 
@@ -10,7 +9,8 @@ pub merge_part-requires : goal.merge_part-requires
 merge_part-requires c =
     record {
       within =
-    (omega arith, c.requires.long.0, c.requires.long.1, omega (arith, c.requires.long, c.loop-n.invariant.1.long));
+          (omega arith, c.requires.long.0, c.requires.long.1,
+              omega (arith, c.requires.long, c.loop-n.invariant.1.long));
     }
 
 pub loop-n-preserved : goal.loop-n-preserved
@@ -24,7 +24,7 @@ pub returns : goal.returns
 returns c =
     record {
       merged =
-    let l = c.loop-n in
-    let end : l.n * 32 ≡ 2048 = omega arith in
-    all_merged (rw end at l.invariant.1);
+          let l = c.loop-n in
+          let end : l.n * 32 ≡ 2048 = omega arith in
+          all_merged (rw end at l.invariant.1);
     }

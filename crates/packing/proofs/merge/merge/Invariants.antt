@@ -1,7 +1,6 @@
 -- `merge::merge` merges part by part. The loop's invariant: the rows of the first n parts are merged. Assumes nothing.
-use Rattle.grammar.proofs.Basics.{◌≡◌, ◌≤◌, ◌*◌, ◌-◌, arith}
+use Rattle.grammar.proofs.Basics.{◌≤◌, ◌*◌, ◌-◌}
 use Rattle.packing.specs.Merging.{RowsMerged}
-use Rattle.packing.proofs.Merged.{none_merged, all_merged}
 use Rattle.packing.proofs.merge.merge.Given as goal
 
 abbrev pub invariant-loop-n : goal.invariant-loop-n

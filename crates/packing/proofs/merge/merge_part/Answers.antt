@@ -1,5 +1,4 @@
-use Rattle.grammar.proofs.Basics.{◌≡◌, refl, ◌∙◌, List, ℕ, ◌≤◌, ◌+◌, ◌*◌, ◌-◌, arith, length}
-use Rattle.packing.specs.Merging.{Merges, RowsMerged}
+use Rattle.grammar.proofs.Basics.{◌≡◌, refl, ◌∙◌, ◌+◌, ◌*◌, arith}
 use Rattle.packing.proofs.Merged.{part_merged}
 use Rattle.packing.proofs.merge.merge_part.Goals as goal
 
@@ -17,7 +16,8 @@ pub merge_row-requires : goal.merge_row-requires
 merge_row-requires c =
     record {
       within =
-    (omega (arith, c.requires.within), c.requires.within.1, c.requires.within.2, omega (arith, c.requires.within.3, c.loop-k.invariant.2));
+          (omega (arith, c.requires.within), c.requires.within.1, c.requires.within.2,
+              omega (arith, c.requires.within.3, c.loop-k.invariant.2));
     }
 
 pub loop-k-preserved : goal.loop-k-preserved

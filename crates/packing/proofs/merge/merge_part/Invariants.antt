@@ -1,8 +1,7 @@
 -- `merge::merge_part` meets its contract: a part that is the same is merged as it stands, another row by row. The
 -- loop's invariant: all rows below k are merged. Assumes nothing.
-use Rattle.grammar.proofs.Basics.{◌≡◌, refl, ◌∙◌, List, ℕ, ◌≤◌, ◌+◌, ◌*◌, ◌-◌, arith, length}
+use Rattle.grammar.proofs.Basics.{◌≡◌, List, ℕ, ◌≤◌, ◌+◌, ◌*◌, ◌-◌, length}
 use Rattle.packing.specs.Merging.{Merges, RowsMerged}
-use Rattle.packing.proofs.Merged.{part_merged}
 use Rattle.packing.proofs.merge.merge_part.Given as goal
 
 abbrev pub invariant-loop-k : goal.invariant-loop-k

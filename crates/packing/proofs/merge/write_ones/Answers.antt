@@ -1,5 +1,5 @@
 use Rattle.grammar.proofs.Basics.{arith}
-use Rattle.packing.proofs.Merged.{Writing, writing_begins, writing_goes, writing_ends}
+use Rattle.packing.proofs.Merged.{writing_begins, writing_goes, writing_ends}
 use Rattle.packing.proofs.merge.write_ones.Goals as goal
 
 pub loop-rest-init : goal.loop-rest-init
@@ -18,7 +18,7 @@ loop-rest-smaller c = c.without_first-rest.ensures.rest.less
 
 pub loop-rest-preserved : goal.loop-rest-preserved
 loop-rest-preserved c =
-    writing_goes c.loop-rest.invariant c.first_one-j.ensures.first (omega arith) 
+    writing_goes c.loop-rest.invariant c.first_one-j.ensures.first (omega arith)
     (omega (arith, c.first_one-j.ensures.first.found (omega arith), c.requires.within, c.loop-rest.invariant.long))
     c.without_first-rest.ensures.rest
 

@@ -1,7 +1,6 @@
 -- `merge::write_ones` meets its contract. The loop's invariant: all ones are written but those of the rest. Assumes
 -- nothing.
-use Rattle.grammar.proofs.Basics.{arith}
-use Rattle.packing.proofs.Merged.{Writing, writing_begins, writing_goes, writing_ends}
+use Rattle.packing.proofs.Merged.{Writing}
 use Rattle.packing.proofs.merge.write_ones.Given as goal
 
 abbrev pub invariant-loop-rest : goal.invariant-loop-rest

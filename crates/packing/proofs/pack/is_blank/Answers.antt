@@ -1,4 +1,4 @@
-use Rattle.grammar.proofs.Basics.{◌≡◌, ℕ, ◌<◌, ◌≤◌, ◌-◌, arith, length, get_or, ltb, ltb-true, ltb-false, eqb-true, cases}
+use Rattle.grammar.proofs.Basics.{arith, length, get_or, ltb, ltb-true, ltb-false, eqb-true, cases}
 use lib.Bits.{or_lt}
 use lib.ListN.{get_or-eq_default}
 use Rattle.packing.proofs.Packed.{still_blank}
@@ -20,10 +20,10 @@ loop-i-preserved c =
 pub returns : goal.returns
 returns c =
     record {
-      blank = λ e k. 
-    let l = c.loop-i in
-    let part = c.args.part.now in
-    cases (ltb k (length part))
-    (λ h. l.invariant.2 (eqb-true l.any 0 e) k (omega (arith, ltb-true k (length part) h)))
-    (λ h. get_or-eq_default part 0 (ltb-false k (length part) h));
+      blank = λ e k.
+          let l = c.loop-i in
+          let part = c.args.part.now in
+          cases (ltb k (length part))
+          (λ h. l.invariant.2 (eqb-true l.any 0 e) k (omega (arith, ltb-true k (length part) h)))
+          (λ h. get_or-eq_default part 0 (ltb-false k (length part) h));
     }

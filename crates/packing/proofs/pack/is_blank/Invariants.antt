@@ -1,9 +1,6 @@
 -- `pack::is_blank` meets its contract. The loop's invariant: where the bits of the bytes passed are 0 together, so is
 -- each byte. Assumes nothing.
-use Rattle.grammar.proofs.Basics.{◌≡◌, ℕ, ◌<◌, ◌≤◌, ◌-◌, arith, length, get_or, ltb, ltb-true, ltb-false, eqb-true, cases}
-use lib.Bits.{or_lt}
-use lib.ListN.{get_or-eq_default}
-use Rattle.packing.proofs.Packed.{still_blank}
+use Rattle.grammar.proofs.Basics.{◌≡◌, ℕ, ◌<◌, ◌≤◌, ◌-◌, length, get_or}
 use Rattle.packing.proofs.pack.is_blank.Given as goal
 
 abbrev pub invariant-loop-i : goal.invariant-loop-i

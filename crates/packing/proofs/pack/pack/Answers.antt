@@ -1,7 +1,5 @@
-use Rattle.grammar.proofs.Basics.{◌≡◌, ◌∙◌, sym, ap, inl, true, ℕ, ◌≤◌, ◌*◌, ◌-◌, ◌/◌, arith, ltb, lt-ltb, length}
+use Rattle.grammar.proofs.Basics.{◌≡◌, ◌∙◌, sym, ap, inl, true, ℕ, ◌*◌, ◌/◌, arith, lt-ltb, length}
 use lib.ListN.{length-replicate}
-use Rattle.bit_machine.specs.BitTable.{bits_size}
-use Rattle.packing.specs.Packing.{PackedRows}
 use Rattle.packing.proofs.Packed.{none_packed, packed_more}
 use Rattle.packing.proofs.pack.pack.Goals as goal
 
@@ -12,9 +10,9 @@ loop-n-init c =
 
 pub pack_part-requires : goal.pack_part-requires
 pack_part-requires c = record {
-      within = (omega arith, c.requires.long, omega (arith, c.loop-n.invariant.1));
-      packed = c.loop-n.invariant.2;
-    }
+  within = (omega arith, c.requires.long, omega (arith, c.loop-n.invariant.1));
+  packed = c.loop-n.invariant.2;
+}
 
 pub loop-n-preserved : goal.loop-n-preserved
 loop-n-preserved c =

@@ -1,9 +1,7 @@
 -- `pack::pack` packs part by part. The loop's invariant: the rows of the first n parts are packed. Assumes nothing.
-use Rattle.grammar.proofs.Basics.{◌≡◌, ◌∙◌, sym, ap, inl, true, ℕ, ◌≤◌, ◌*◌, ◌-◌, ◌/◌, arith, ltb, lt-ltb, length}
-use lib.ListN.{length-replicate}
+use Rattle.grammar.proofs.Basics.{◌≡◌, ◌≤◌, ◌*◌, ◌-◌, ltb, length}
 use Rattle.bit_machine.specs.BitTable.{bits_size}
 use Rattle.packing.specs.Packing.{PackedRows}
-use Rattle.packing.proofs.Packed.{none_packed, packed_more}
 use Rattle.packing.proofs.pack.pack.Given as goal
 
 abbrev pub invariant-loop-n : goal.invariant-loop-n

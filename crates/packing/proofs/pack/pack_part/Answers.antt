@@ -1,13 +1,12 @@
-use Rattle.grammar.proofs.Basics.{◌≡◌, refl, ◌∙◌, inl, ℕ, ◌≤◌, ◌+◌, ◌*◌, ◌-◌, ◌/◌, arith, ltb, length}
-use Rattle.packing.specs.Packing.{PackedRows}
+use Rattle.grammar.proofs.Basics.{◌≡◌, refl, ◌∙◌, inl, ◌+◌, ◌*◌, ◌/◌, arith, ltb}
 use Rattle.packing.proofs.Packed.{blank_part, packed_more, one_row_more}
 use Rattle.packing.proofs.pack.pack_part.Goals as goal
 
 pub returns-then-is_blank : goal.returns-then-is_blank
 returns-then-is_blank c = record {
-      long = refl;
-      packed = blank_part c.args.n (c.is_blank.ensures.blank c.if-is_blank.true) c.requires.packed;
-    }
+  long = refl;
+  packed = blank_part c.args.n (c.is_blank.ensures.blank c.if-is_blank.true) c.requires.packed;
+}
 
 pub loop-k-init : goal.loop-k-init
 loop-k-init c = (omega arith, omega arith, refl, c.requires.packed)
@@ -16,7 +15,7 @@ pub pack_row-requires : goal.pack_row-requires
 pack_row-requires c =
     record {
       within =
-    (omega (arith, c.requires), c.requires.within.1, omega (arith, c.requires.within, c.loop-k.invariant.2));
+          (omega (arith, c.requires), c.requires.within.1, omega (arith, c.requires.within, c.loop-k.invariant.2));
     }
 
 pub loop-k-preserved : goal.loop-k-preserved

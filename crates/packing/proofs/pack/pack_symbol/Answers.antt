@@ -1,6 +1,5 @@
-use Rattle.grammar.proofs.Basics.{◌≡◌, refl, ◌∙◌, sym, inl, Bool, ◌&&◌, ◌||◌, ℕ, ◌≤◌, ◌-◌, ◌/◌, ◌%◌, arith, eqb, ltb}
-use Rattle.grammar.proofs.Basics.{length, lt-ltb, le-ltb}
-use Rattle.packing.specs.Packing.{PackedRows}
+use Rattle.grammar.proofs.Basics.{◌≡◌, refl, ◌∙◌, sym, inl, ◌/◌, arith}
+use Rattle.grammar.proofs.Basics.{lt-ltb, le-ltb}
 use Rattle.packing.proofs.Packed.{packed_more, one_state_more}
 use Rattle.packing.proofs.pack.pack_symbol.Goals as goal
 
@@ -15,18 +14,18 @@ pub pack_row-requires : goal.pack_row-requires
 pack_row-requires c =
     record {
       within =
-    (omega (arith, c.requires.within), c.requires.within.1, omega (arith, c.requires.within.2, c.loop-q.invariant.1));
+          (omega (arith, c.requires.within), c.requires.within.1,
+              omega (arith, c.requires.within.2, c.loop-q.invariant.1));
     }
 
 pub loop-q-preserved : goal.loop-q-preserved
-loop-q-preserved c =
-    (
-      omega arith,
-      c.pack_row.ensures.long ∙ c.loop-q.invariant.1,
-      λ rows packed.
-          packed_more _ (c.pack_row.ensures.packed _ (c.loop-q.invariant.2 rows packed))
-          (λ p h. inl (one_state_more (p / 32) c.loop-q.q c.args.symbol (rows (p / 32)) c.requires.within.0)),
-    )
+loop-q-preserved c = (
+  omega arith,
+  c.pack_row.ensures.long ∙ c.loop-q.invariant.1,
+  λ rows packed.
+      packed_more _ (c.pack_row.ensures.packed _ (c.loop-q.invariant.2 rows packed))
+      (λ p h. inl (one_state_more (p / 32) c.loop-q.q c.args.symbol (rows (p / 32)) c.requires.within.0)),
+)
 
 pub shape_of-bits : goal.shape_of-bits
 shape_of-bits c = c.loop-q.invariant.1

@@ -1,9 +1,8 @@
 -- `pack::pack_symbol` packs row by row. The loop's invariant: the rows of the symbol at the states below q are packed
 -- besides what was. Assumes nothing.
-use Rattle.grammar.proofs.Basics.{◌≡◌, refl, ◌∙◌, sym, inl, Bool, ◌&&◌, ◌||◌, ℕ, ◌≤◌, ◌-◌, ◌/◌, ◌%◌, arith, eqb, ltb}
-use Rattle.grammar.proofs.Basics.{length, lt-ltb, le-ltb}
+use Rattle.grammar.proofs.Basics.{◌≡◌, Bool, ◌&&◌, ◌||◌, ℕ, ◌≤◌, ◌-◌, ◌/◌, ◌%◌, eqb, ltb}
+use Rattle.grammar.proofs.Basics.{length}
 use Rattle.packing.specs.Packing.{PackedRows}
-use Rattle.packing.proofs.Packed.{packed_more, one_state_more}
 use Rattle.packing.proofs.pack.pack_symbol.Given as goal
 
 abbrev pub invariant-loop-q : goal.invariant-loop-q

@@ -1,6 +1,6 @@
-use Rattle.grammar.proofs.Basics.{◌≡◌, List, Bool, ℕ, ◌≤◌, ◌+◌, ◌-◌, ◌*◌, arith, get_or}
+use Rattle.grammar.proofs.Basics.{◌≡◌, arith}
 use Rattle.machine.specs.Table.{is_pending_lem, is_done_lem}
-use Rattle.bit_machine.proofs.StateWords.{FirstBits, first_bits_none, first_bits_more, first_bits_all}
+use Rattle.bit_machine.proofs.StateWords.{first_bits_none, first_bits_more, first_bits_all}
 use Rattle.packing.proofs.pack.row_words.Invariants.{in_row}
 use Rattle.packing.proofs.pack.row_words.Goals as goal
 
