@@ -1,9 +1,9 @@
-//! Links the archive that `rt staticlib ropeclover` writes; ROPECLOVER_LIB names another folder that holds it.
+//! Links the archive that `./build ropeclover` writes; ROPECLOVER_LIB names another folder that holds it.
 use std::env;
 use std::path::PathBuf;
 use std::process::exit;
 
-/// The folder that ROPECLOVER_LIB names, else the one that `rt staticlib` writes to.
+/// The folder that ROPECLOVER_LIB names, else the one that `./build` writes to.
 fn folder() -> PathBuf {
     match env::var_os("ROPECLOVER_LIB") {
         Some(folder) => PathBuf::from(folder),
@@ -18,7 +18,7 @@ fn main() {
     println!("cargo:rerun-if-changed={}", archive.display());
     if !archive.exists() {
         eprintln!(
-            "error: {} is missing: run `rt staticlib ropeclover` in the repository's root,\n\
+            "error: {} is missing: run `./build ropeclover` in the repository's root,\n\
              or set ROPECLOVER_LIB to the folder that holds libropeclover.a",
             archive.display()
         );

@@ -2,10 +2,7 @@
 
 # Builds the archive of a crate, the library's if none is named, anew where it is missing or a source is newer. (.ci/run takes it away first.)
 archive() {
-    local name=${1:-ropeclover} said
-    local file=target/staticlib/lib$name.a
-    if [ -e "$file" ] && [ -z "$(find crates crates.txt -newer "$file" -print -quit)" ]; then return; fi
-    said=$(rt staticlib "$name" 2>&1) || { tail -n 40 <<<"$said"; return 1; }
+    ./build "${1:-ropeclover}" 2>&1
 }
 
 # Runs a cargo test command: a line for each of its suites, what failed in full, and the closing line 'N passed, M failed'.

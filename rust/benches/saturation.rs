@@ -24,7 +24,7 @@ use std::hint::black_box;
 use std::time::{Duration, Instant};
 use timing::{row, time};
 
-// What `rt staticlib benchmarks` writes.
+// What `./build benchmarks` writes.
 #[link(name = "benchmarks", kind = "static")]
 extern "C" {
     fn ropeclover_benchmark_state_count(job: *const u8, job_len: usize) -> u64;

@@ -1,7 +1,7 @@
 -- Where the first body of a line begins, and the one behind a body. Assumes nothing.
-use Rattle.grammar.proofs.Basics.{ℕ, ◌≤◌, List, ◌≡◌, sym, true, false, length, drop_of_length-le, true≢false}
+use Rattle.grammar.proofs.Basics.{ℕ, ◌≤◌, List, ◌≡◌, ◌∙◌, sym, ap, true, false, length, drop_of_length-le, true≢false}
 use Rattle.abnf.specs.declared.Edition.{Edition}
-use Rattle.abnf.specs.declared.Stage.TheVariants.{LineStart}
+use Rattle.abnf.specs.declared.Stage.TheVariants.{LineStart, Open}
 use Rattle.abnf.specs.Pieces.{pieces_from}
 use Rattle.abnf.specs.Reading.{says_from}
 use Rattle.abnf.specs.Meaning.{number_of}
@@ -11,7 +11,7 @@ use Rattle.cursor.specs.declared.Head.{Head}
 use Rattle.cursor.specs.Cursor.{said_at, HeadRead}
 use Rattle.bodies.specs.declared.BodyRead.{BodyRead}
 use Rattle.bodies.specs.declared.BodyPlace.{BodyPlace}
-use Rattle.bodies.specs.Items.{Behind, bodies_behind}
+use Rattle.bodies.specs.Items.{Behind, bodies_said, bodies_behind}
 use Rattle.bodies.specs.Places.{PlaceOf}
 
 module _ (e : Edition) (text : List ℕ) (names : List (List ℕ)) where
@@ -20,7 +20,13 @@ module _ (e : Edition) (text : List ℕ) (names : List (List ℕ)) where
       PlaceOf e text names (record { more = true; at = h.body; head = number })
       (bodies_from names (said_at e LineStart text at).lines)
   unfolding bodies_from
-  first_body at h number read is = record { begins = λ t. read.element; bodies_are = rw (read.says, is) }
+  first_body at h number read is =
+      record {
+        begins = λ t. read.element;
+        bodies_are =
+            ap (λ k. bodies_said names k (said_at e Open text h.body)) is
+            ∙ ap (λ said. bodies_from names said.lines) (sym read.says);
+      }
 
   pub no_line : (at : ℕ) → length text ≤ at →
       PlaceOf e text names (record { more = false; at = at; head = 0 })

@@ -28,7 +28,7 @@ ghost use Rattle.claims.specs.TwoRuns.{TwoRuns};
 ghost use Rattle.claims.specs.WiderClasses.{WiderClasses};
 
 // Demand 2: a table of bytes or of bits, finished from a job's start, holds the smallest set, and accepts just the
-// forms that derive a string of the automaton. `⌜ .. ⌝` is for Type 0; `fact` is the same at any level, here at that of
+// forms that derive a string of the automaton. A plain clause is of Type 0; `fact` is the same at any level, here at that of
 // statements about all sets.
 pub fn finished_tables()
     ensures* theorem { fact 𝓤 FinishedTables }

@@ -1,4 +1,4 @@
--- How a function with an empty body carries a theorem of Type 1, as one about all predicates is. `⌜ .. ⌝` is for Type 0;
+-- How a function with an empty body carries a theorem of Type 1, as one about all predicates is. A plain clause is of Type 0;
 -- `fact` is the same at any level, but the borrow checker reads facts of Type 0 alone. So the reading of the clause
 -- stands here, for any such theorem: nothing is owed for the clause and nothing told by it, as the theorem shows it
 -- whatever is held. A proof file gives its function's code and the run that promises nothing. Assumes nothing.

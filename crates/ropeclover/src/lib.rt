@@ -1,4 +1,4 @@
-// The C interface of the library: `rt staticlib ropeclover` makes an archive of it. Its manual is include/ropeclover.h.
+// The C interface of the library: `./build ropeclover` makes an archive of it. Its manual is include/ropeclover.h.
 #![tactic(auto)]
 
 pub mod exports;

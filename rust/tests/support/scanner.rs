@@ -1,7 +1,7 @@
 //! The scan of ABNF text and its cursor, through an archive of their own: no part of `support`, so that other tests do not link it.
 use crate::support::abnf::{Character, Element, Line};
 
-// What `rt staticlib scanner_cases` writes.
+// What `./build scanner_cases` writes.
 #[link(name = "scanner_cases", kind = "static")]
 extern "C" {
     fn ropeclover_test_scan(newer: bool, text: *const u8, text_len: usize) -> u64;

@@ -7,12 +7,14 @@ use Rattle.bits.proofs.table.offer.Goals as goal
 
 pub returns-then-has_bit : goal.returns-then-has_bit
 unfolding add_offer
-returns-then-has_bit c = let e = not_absent_done _ _ c.requires.variable.0 (sym c.has_bit.ensures.bit ∙ c.if-has_bit.true) in
+returns-then-has_bit c = let e = not_absent_done _ _ c.requires.variable.0
+    (sym c.has_bit.ensures.bit ∙ c.if-has_bit.true) in
     record { absent = sym e; written = rw e; kept = kept_same _ }
 
 pub returns-then-has_bit-2 : goal.returns-then-has_bit-2
 unfolding add_offer
-returns-then-has_bit-2 c = let e = not_absent_pending _ _ c.requires.variable.0 (sym c.has_bit-2.ensures.bit ∙ c.if-has_bit-2.true) in
+returns-then-has_bit-2 c = let e = not_absent_pending _ _ c.requires.variable.0
+    (sym c.has_bit-2.ensures.bit ∙ c.if-has_bit-2.true) in
     record { absent = sym e; written = rw e; kept = kept_same _ }
 
 pub make_pending-requires : goal.make_pending-requires

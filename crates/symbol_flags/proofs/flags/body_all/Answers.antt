@@ -7,7 +7,10 @@ pub returns-then-rule-eq69 : goal.returns-then-rule-eq69
 returns-then-rule-eq69 c = record { says = rw (body_all_lem, eq-eqb _ _ c.if-rule-eq69.true) }
 
 pub returns-then-flags-rule-ne1 : goal.returns-then-flags-rule-ne1
-returns-then-flags-rule-ne1 c = record { says = rw (body_all_lem, ne_eqb _ _ c.if-rule-eq69.false, ne_eqb _ _ c.if-flags-rule-ne1.true) }
+returns-then-flags-rule-ne1 c =
+    record {
+      says = rw (body_all_lem, ne_eqb _ _ c.if-rule-eq69.false, ne_eqb _ _ c.if-flags-rule-ne1.true);
+    }
 
 pub returns-then-rule-eq85 : goal.returns-then-rule-eq85
 returns-then-rule-eq85 c =

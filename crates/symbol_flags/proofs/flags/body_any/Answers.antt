@@ -7,7 +7,10 @@ pub returns-then-rule-eq69 : goal.returns-then-rule-eq69
 returns-then-rule-eq69 c = record { says = rw (body_any_lem, eq-eqb _ _ c.if-rule-eq69.true) }
 
 pub returns-then-flags-rule-eq1 : goal.returns-then-flags-rule-eq1
-returns-then-flags-rule-eq1 c = record { says = rw (body_any_lem, ne_eqb _ _ c.if-rule-eq69.false, eq-eqb _ _ c.if-flags-rule-eq1.true) }
+returns-then-flags-rule-eq1 c =
+    record {
+      says = rw (body_any_lem, ne_eqb _ _ c.if-rule-eq69.false, eq-eqb _ _ c.if-flags-rule-eq1.true);
+    }
 
 pub returns-then-rule-eq85 : goal.returns-then-rule-eq85
 returns-then-rule-eq85 c =

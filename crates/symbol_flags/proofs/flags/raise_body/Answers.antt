@@ -34,7 +34,10 @@ module _ (r : declared.RuleFields) (test : Bool) {s : ℕ → Bool} where
         (λ X _. simp (body_any_lem, ne_eqb _ _ d, ne_eqb _ _ e, and-or_distrib_left, or_assoc))
 
 pub returns-then-rule-eq69 : goal.returns-then-rule-eq69
-returns-then-rule-eq69 c = record { raised = λ s held. let a = c.args in of_empty a.rule a.test c.if-rule-eq69.true held }
+returns-then-rule-eq69 c =
+    record {
+      raised = λ s held. let a = c.args in of_empty a.rule a.test c.if-rule-eq69.true held;
+    }
 
 pub returns-then-rule-eq85 : goal.returns-then-rule-eq85
 returns-then-rule-eq85 c =

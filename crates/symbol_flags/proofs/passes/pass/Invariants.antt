@@ -9,7 +9,8 @@ use Rattle.symbol_flags.proofs.passes.pass.Given as goal
 abbrev pub invariant-loop-k : goal.invariant-loop-k
 invariant-loop-k l =
     (l.k ≤ length l.keys)
-    × ((s : ℕ → Bool) → Flags s l.initial.flags → Raised s (in_place l.direction (rules_of_keys (take l.k l.keys)) s) l.flags l.new)
+    × ((s : ℕ → Bool) → Flags s l.initial.flags →
+    Raised s (in_place l.direction (rules_of_keys (take l.k l.keys)) s) l.flags l.new)
 
 abbrev pub decreases-loop-k : goal.decreases-loop-k
 decreases-loop-k l = length l.keys - l.k

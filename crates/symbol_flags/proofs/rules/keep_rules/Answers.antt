@@ -38,6 +38,7 @@ returns c = let keys = c.args.keys.now in
     record {
       rules = λ set held.
           (rw (take_all c.loop-k.k keys (omega arith)) at c.loop-k.invariant.3)
-          ∙ within_same (flagged c.args.flags.now) set (flags_test held) (rules_of_keys keys) (keys_below c.requires.rules);
+          ∙ within_same (flagged c.args.flags.now) set (flags_test held) (rules_of_keys keys)
+          (keys_below c.requires.rules);
       kept = c.loop-k.invariant.2;
     }

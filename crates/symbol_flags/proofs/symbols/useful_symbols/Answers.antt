@@ -28,5 +28,6 @@ returns c =
       flags =
           let m = c.keep_rules-m.result in
           rw (← c.keep_rules-m.ensures.rules _ c.requires.productive, ← sub-zero m)
-          (c.grow.ensures.grown _ (started c.args.start c.requires.start c.requires.productive c.flag_one.ensures.flags));
+          (c.grow.ensures.grown _ (started c.args.start c.requires.start c.requires.productive
+          c.flag_one.ensures.flags));
     }
