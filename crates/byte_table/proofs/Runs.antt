@@ -1,6 +1,7 @@
 -- Runs on a byte table by way of bits: what is merged of a run on bits is what the machine on bytes leaves, with the
 -- same counts; and what is written of a start and a run is what they leave. Assumes nothing.
-use Rattle.grammar.proofs.Basics.{◌≡◌, refl, ◌∙◌, sym, ap, ap₂, true, false, Bool, cond, ◌||◌, List, [], ℕ, ◌<◌, ◌≤◌, ◌/◌, suc, zero, arith}
+use Rattle.grammar.proofs.Basics.{◌≡◌, refl, ◌∙◌, sym, ap, ap₂, true, false, Bool, cond, ◌||◌, List, [], ℕ, ◌<◌, ◌≤◌}
+use Rattle.grammar.proofs.Basics.{◌/◌, suc, zero, arith}
 use Rattle.grammar.proofs.Basics.{leb, length, get_or, drop, replicate, leb-true, leb-false, lt-leb, le-ltb, cases}
 use Rattle.grammar.specs.Rule.{Rule}
 use Rattle.job.specs.Accepted.{Accepted}
@@ -8,7 +9,8 @@ use Rattle.job.specs.Written.{cleared}
 use Rattle.job.specs.Job.{Job, job_of}
 use Rattle.job.proofs.AcceptedFacts.{in_range}
 use Rattle.job.proofs.Clearing.{cleared_length, cleared_front, cleared_rest}
-use Rattle.machine.specs.Table.{Lent, lent_of, table_size, from_state, symbol_at, to_state, Status, Statuses, byte_status}
+use Rattle.machine.specs.Table.{Lent, lent_of, table_size, from_state, symbol_at, to_state, Status, Statuses}
+use Rattle.machine.specs.Table.{byte_status}
 use Rattle.machine.specs.Table.{says_absent, statuses}
 use Rattle.machine.specs.Start.{is_empty_at, started}
 use Rattle.machine.specs.Step.{is_finished}
@@ -65,9 +67,11 @@ module _ (ρs : List Rule) (range : RulesInRange ρs) (n : ℕ) (old reasons new
       after.reasons
 
 -- the counts of runs on tables that say the same
-module _ (ρs : List Rule) (range : RulesInRange ρs) (n : ℕ) (bits m : Lent) (table_long_lem : table_size ≤ length m.table)
+module _ (ρs : List Rule) (range : RulesInRange ρs) (n : ℕ) (bits m : Lent)
+    (table_long_lem : table_size ≤ length m.table)
     (alike : Alike bits m) where
-  pub same_end : is_finished (statuses (steps ρs n (as_bytes bits)).table) ≡ is_finished (statuses (steps ρs n m).table)
+  pub same_end : is_finished (statuses (steps ρs n (as_bytes bits)).table)
+      ≡ is_finished (statuses (steps ρs n m).table)
   same_end = same_finished (steps_same ρs range n (as_bytes bits) m (same_tables bits m table_long_lem alike))
 
   pub same_steps : steps_made ρs n (as_bytes bits) ≡ steps_made ρs n m
@@ -113,7 +117,8 @@ written_whole v table whole long rest small says =
 
 -- a start on bits beside one on bytes
 module _ (J : Job) (bits0 bits1 reasons reasons1 table : List ℕ) (long : bits_size ≤ length bits0)
-    (table_long_lem : table_size ≤ length table) (begun : lent_of bits1 reasons1 ≡ started_bits J (lent_of bits0 reasons)) where
+    (table_long_lem : table_size ≤ length table)
+    (begun : lent_of bits1 reasons1 ≡ started_bits J (lent_of bits0 reasons)) where
   pub begun_alike : Alike (lent_of bits1 reasons1) (started J (lent_of table reasons))
   begun_alike = rw begun (starts_alike J (lent_of bits0 reasons) (lent_of table reasons) long table_long_lem refl)
 
@@ -121,14 +126,16 @@ module _ (J : Job) (bits0 bits1 reasons reasons1 table : List ℕ) (long : bits_
   unfolding started_bits
   begun_long =
       rw (ap (λ (l : Lent). length l.table) begun
-      ∙ rewritten_length (saying (λ p. false) (statuses (started J (as_bytes (lent_of bits0 reasons))).table)) bits0) long
+      ∙ rewritten_length (saying (λ p. false) (statuses (started J (as_bytes (lent_of bits0 reasons))).table)) bits0)
+      long
 
 -- what is written of bits that say what a start and n steps leave
 module _ (J : Job) (m : Lent) (long : table_size ≤ length m.table) where
   start_small : (p : ℕ) → p < table_size → get_or (started J m).table p 0 < 3
   start_small p l =
       rw (started_byte J m p l long, lt-leb table_size p l)
-      (small (J.given (from_state p) (symbol_at p) (to_state p) || is_empty_at J (from_state p) (symbol_at p) (to_state p)))
+      (small (J.given (from_state p) (symbol_at p) (to_state p)
+      || is_empty_at J (from_state p) (symbol_at p) (to_state p)))
     where
       small : (b : Bool) → cond b 1 0 < 3
       small true = omega arith
@@ -149,7 +156,8 @@ module _ (J : Job) (m : Lent) (long : table_size ≤ length m.table) where
       alike.reasons
 
 -- a start and a run on bits, written into a byte table
-module _ {job : List ℕ} (ok : Accepted true job) (n : ℕ) (bits0 bits1 bits2 reasons reasons1 reasons2 table table' : List ℕ)
+module _ {job : List ℕ} (ok : Accepted true job) (n : ℕ)
+    (bits0 bits1 bits2 reasons reasons1 reasons2 table table' : List ℕ)
     (long : bits_size ≤ length bits0) (table_long_lem : table_size ≤ length table)
     (begun : lent_of bits1 reasons1 ≡ started_bits (job_of job) (lent_of bits0 reasons))
     (ran : lent_of bits2 reasons2 ≡ steps_bits (job_of job).rules n (lent_of bits1 reasons1))
@@ -172,7 +180,8 @@ module _ {job : List ℕ} (ok : Accepted true job) (n : ℕ) (bits0 bits1 bits2 
 
   pub from_start_lent : lent_of table' reasons2 ≡ steps (job_of job).rules n begins
   from_start_lent =
-      written_run (job_of job) (lent_of table reasons) table_long_lem (job_of job).rules n bits2 reasons2 table' last written
+      written_run (job_of job) (lent_of table reasons) table_long_lem (job_of job).rules n bits2 reasons2 table' last
+      written
 
   pub from_start_alike : Alike (lent_of bits2 reasons2) (lent_of table' reasons2)
   from_start_alike = rw from_start_lent last

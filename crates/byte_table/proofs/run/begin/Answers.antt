@@ -8,21 +8,23 @@ pub begin-states-requires : goal.begin-states-requires
 begin-states-requires c =
     record {
       able =
-    (omega arith, c.requires.able.1, c.requires.able.2);
+          (omega arith, c.requires.able.1, c.requires.able.2);
     }
 
 pub write_table-requires : goal.write_table-requires
 write_table-requires c =
     record {
-      long =
-    (begun_long _ _ _ _ _ c.args.table.now (omega arith) c.requires.able.0 c.begin-states.ensures.written, c.requires.able.0);
+      long = (
+        begun_long _ _ _ _ _ c.args.table.now (omega arith) c.requires.able.0 c.begin-states.ensures.written,
+        c.requires.able.0,
+      );
     }
 
 pub returns : goal.returns
 unfolding steps
 returns c = record {
-      states = c.begin-states.ensures.states;
-      written = written_run _ _ c.requires.able.0 [] 0 _ _ _
-          (begun_alike _ _ _ _ _ c.args.table.now (omega arith) c.requires.able.0 c.begin-states.ensures.written)
-          c.write_table.ensures.written;
-    }
+  states = c.begin-states.ensures.states;
+  written = written_run _ _ c.requires.able.0 [] 0 _ _ _
+      (begun_alike _ _ _ _ _ c.args.table.now (omega arith) c.requires.able.0 c.begin-states.ensures.written)
+      c.write_table.ensures.written;
+}

@@ -6,9 +6,13 @@ use Rattle.byte_table.proofs.run.run_from_start.Goals as goal
 
 pub run-ended-requires : goal.run-ended-requires
 run-ended-requires c = record {
-      long = (begun_long _ _ _ _ _ c.args.table.now c.requires.long.0 c.requires.long.1 c.begin-states.ensures.written, omega arith);
-      accepted = c.requires.accepted;
-    }
+  long = (
+    begun_long _ _ _ _ _ c.args.table.now c.requires.long.0 c.requires.long.1
+        c.begin-states.ensures.written,
+    omega arith,
+  );
+  accepted = c.requires.accepted;
+}
 
 pub returns : goal.returns
 returns c = let ok = c.requires.accepted in
@@ -18,8 +22,8 @@ returns c = let ok = c.requires.accepted in
     let (long, table_long_lem, reasons_long_lem) = c.requires.long in
     let ended = c.run-ended.ensures in
     let counts =
-        from_start_counts ok c.args.n _ _ _ _ _ _ c.args.table.now _ long table_long_lem begun ran written
-        ended.finished ended.made ended.met
+    from_start_counts ok c.args.n _ _ _ _ _ _ c.args.table.now _ long table_long_lem begun ran written
+    ended.finished ended.made ended.met
     in record {
       lent = from_start_lent ok c.args.n _ _ _ _ _ _ c.args.table.now _ long table_long_lem begun ran written;
       alike = from_start_alike ok c.args.n _ _ _ _ _ _ c.args.table.now _ long table_long_lem begun ran written;
