@@ -16,14 +16,14 @@ run_from_start-requires c = let (t, rs, ok) = may_start _ _ _ c.explain_check-c.
 
 pub explain_finished-requires : goal.explain_finished-requires
 explain_finished-requires c = record {
-      able = may_explain _ _ _ c.explain_check-c.ensures.checked c.if-c-ne0.false c.run_from_start.ensures.lent;
-      alike = (omega arith, c.run_from_start.ensures.alike.says);
-    }
+  able = may_explain _ _ _ c.explain_check-c.ensures.checked c.if-c-ne0.false c.run_from_start.ensures.lent;
+  alike = (omega arith, c.run_from_start.ensures.alike.says);
+}
 
 pub returns : goal.returns
 returns c =
     record {
       outcome =
-    explains _ _ _ c.explain_check-c.ensures.checked c.if-c-ne0.false c.run_from_start.ensures.lent _
-    c.explain_finished.ensures.outcome;
+          explains _ _ _ c.explain_check-c.ensures.checked c.if-c-ne0.false c.run_from_start.ensures.lent _
+          c.explain_finished.ensures.outcome;
     }

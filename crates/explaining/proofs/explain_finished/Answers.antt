@@ -1,7 +1,6 @@
 -- `explaining::explain_finished` meets its contract: the bit of the whole form at the initial state says whether
 -- it is accepted, and the places filled then are its route. Assumes nothing.
-use Rattle.grammar.proofs.Basics.{rules}
-use Rattle.grammar.proofs.Basics.{refl, arith}
+use Rattle.grammar.proofs.Basics.{refl, arith, rules}
 use Rattle.forms.proofs.AskAnswers.{state_below}
 use Rattle.forms.proofs.ExplainAnswers.{not_accepted_lem, may_fill, on_route, explained}
 use Rattle.explaining.proofs.explain_finished.Goals as goal
@@ -10,8 +9,8 @@ pub fill_by_job-q-requires : goal.fill_by_job-q-requires
 fill_by_job-q-requires c =
     record {
       able =
-    let p = c.requires in
-    (p.alike.0, p.able.1, p.able.0.job_accepted, search rules);
+          let p = c.requires in
+          (p.alike.0, p.able.1, p.able.0.job_accepted, search rules);
     }
 
 pub overflow_cast-q : goal.overflow_cast-q
@@ -24,8 +23,8 @@ pub returns-then-finish-q-ne1 : goal.returns-then-finish-q-ne1
 returns-then-finish-q-ne1 c =
     record {
       outcome =
-    let p = c.requires in
-    not_accepted_lem c.fill_by_job-q.ensures.filled _ p.alike.1 p.able.1.symbols _ _ c.if-finish-q-ne1.true;
+          let p = c.requires in
+          not_accepted_lem c.fill_by_job-q.ensures.filled _ p.alike.1 p.able.1.symbols _ _ c.if-finish-q-ne1.true;
     }
 
 pub fill_route-requires : goal.fill_route-requires
@@ -38,16 +37,16 @@ fill_route-requires c = let f = c.fill_by_job-q.ensures.filled in
 
 pub list_accepted-requires : goal.list_accepted-requires
 list_accepted-requires c = let p = c.requires in record {
-      able = p.able;
-      accepted = on_route c.fill_by_job-q.ensures.filled _ p.alike.1 p.able.1.symbols c.if-finish-q-ne1.false _
-          c.fill_route.ensures.route;
-    }
+  able = p.able;
+  accepted = on_route c.fill_by_job-q.ensures.filled _ p.alike.1 p.able.1.symbols c.if-finish-q-ne1.false _
+      c.fill_route.ensures.route;
+}
 
 pub returns : goal.returns
 returns c =
     record {
       outcome =
-    let p = c.requires in
-    explained c.fill_by_job-q.ensures.filled _ p.alike.1 p.able.1.symbols c.if-finish-q-ne1.false _ _ _
-    c.list_accepted.ensures.outcome;
+          let p = c.requires in
+          explained c.fill_by_job-q.ensures.filled _ p.alike.1 p.able.1.symbols c.if-finish-q-ne1.false _ _ _
+          c.list_accepted.ensures.outcome;
     }

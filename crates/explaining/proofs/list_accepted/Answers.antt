@@ -1,8 +1,8 @@
 -- `explaining::list_accepted` meets its contract: the pass that counts tells whether the records fit, and the
 -- pass that writes starts from the same table and listing. Assumes nothing.
-use Rattle.grammar.proofs.Basics.{refl, false, ◌≤◌, ◌-◌, arith, length, take, drop, true_and_false}
+use Rattle.grammar.proofs.Basics.{refl, false, arith, true_and_false}
 use Rattle.job.proofs.Keys.{keys_long}
-use Rattle.forms.proofs.Explaining.{ReadyToList, ready, places_enough, may_pass, needed_few, refuses_13, may_write}
+use Rattle.forms.proofs.Explaining.{ready, places_enough, may_pass, needed_few, refuses_13, may_write}
 use Rattle.forms.proofs.Explaining.{writes}
 use Rattle.explaining.proofs.list_accepted.Goals as goal
 
@@ -27,7 +27,8 @@ overflow_mul-needed c =
       fits = omega (
         arith,
         needed_few (ready _ (c.requires.able, c.requires.accepted)
-    (c.sorted_rules-count.ensures.count, c.sorted_rules-count.ensures.sorted)) _ c.list_all-needed.ensures.listed,
+            (c.sorted_rules-count.ensures.count, c.sorted_rules-count.ensures.sorted)) _
+                c.list_all-needed.ensures.listed,
       );
     }
 
@@ -35,8 +36,9 @@ pub returns-then-listing-needed : goal.returns-then-listing-needed
 returns-then-listing-needed c =
     record {
       outcome =
-    refuses_13 (ready _ (c.requires.able, c.requires.accepted)
-    (c.sorted_rules-count.ensures.count, c.sorted_rules-count.ensures.sorted)) _ c.list_all-needed.ensures.listed c.if-listing-needed.true;
+          refuses_13 (ready _ (c.requires.able, c.requires.accepted)
+          (c.sorted_rules-count.ensures.count, c.sorted_rules-count.ensures.sorted)) _ c.list_all-needed.ensures.listed
+          c.if-listing-needed.true;
     }
 
 pub list_all-records-requires : goal.list_all-records-requires
@@ -50,7 +52,8 @@ pub returns : goal.returns
 returns c =
     record {
       outcome =
-    let r = ready _ (c.requires.able, c.requires.accepted)
-    (c.sorted_rules-count.ensures.count, c.sorted_rules-count.ensures.sorted) in
-    writes r _ c.list_all-needed.ensures.listed c.if-listing-needed.false c.unmark.ensures.unmarked c.list_all-records.ensures.listed;
+          let r = ready _ (c.requires.able, c.requires.accepted)
+          (c.sorted_rules-count.ensures.count, c.sorted_rules-count.ensures.sorted) in
+          writes r _ c.list_all-needed.ensures.listed c.if-listing-needed.false c.unmark.ensures.unmarked
+          c.list_all-records.ensures.listed;
     }

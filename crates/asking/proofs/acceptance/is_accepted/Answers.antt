@@ -1,7 +1,6 @@
 -- `acceptance::is_accepted` meets its contract: the answer is the initial state's bit in the word of the whole form.
 -- Assumes nothing.
-use Rattle.grammar.proofs.Basics.{rules}
-use Rattle.grammar.proofs.Basics.{◌∙◌, arith}
+use Rattle.grammar.proofs.Basics.{◌∙◌, arith, rules}
 use Rattle.bit_machine.proofs.BitBytes.{bit_test}
 use Rattle.forms.proofs.AskAnswers.{state_below, initial_bit}
 use Rattle.asking.proofs.acceptance.is_accepted.Goals as goal

@@ -1,5 +1,4 @@
-use Rattle.grammar.proofs.Basics.{rules}
-use Rattle.grammar.proofs.Basics.{◌≡◌, ◌∙◌, sym, true, false, Bool, ℕ, ◌<◌, ◌≤◌, arith, ltb}
+use Rattle.grammar.proofs.Basics.{◌≡◌, ◌∙◌, sym, true, false, Bool, ℕ, ◌<◌, ◌≤◌, arith, ltb, rules}
 use Rattle.grammar.proofs.Basics.{ltb-false, ltb-true}
 use borrow.Author.Count.{below_more}
 use Rattle.forms.proofs.FormChecks.{form_too_long, form_over, form_fits}

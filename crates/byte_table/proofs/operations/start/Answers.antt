@@ -1,7 +1,6 @@
 -- `operations::start` meets its contract: a refusal leaves what is lent, and what passes the checks is begun.
 -- Assumes nothing.
-use Rattle.grammar.proofs.Basics.{rules}
-use Rattle.grammar.proofs.Basics.{◌≡◌, refl, List, ℕ, eq-eqb, ne_eqb}
+use Rattle.grammar.proofs.Basics.{◌≡◌, refl, List, ℕ, eq-eqb, ne_eqb, rules}
 use Rattle.job.specs.declared.Checked.{Checked}
 use Rattle.job.specs.Job.{job_of}
 use Rattle.machine.specs.Table.{Lent}

@@ -1,7 +1,6 @@
 -- `begin::give` meets its contract: the writes are those of `giving`, whose tests the branches make, and a place that
 -- becomes pending is not done. Assumes nothing.
-use Rattle.grammar.proofs.Basics.{rules}
-use Rattle.grammar.proofs.Basics.{◌∙◌, sym, ap, not, arith, ltb-true}
+use Rattle.grammar.proofs.Basics.{◌∙◌, sym, ap, not, arith, ltb-true, rules}
 use Rattle.machine.proofs.Starts.Giving.{not_given, terminal_given, variable_given}
 use Rattle.bit_machine.proofs.Keeping.{kept_same, none_done_pending}
 use Rattle.starting.proofs.begin.give.Goals as goal

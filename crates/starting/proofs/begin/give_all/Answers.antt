@@ -1,5 +1,4 @@
-use Rattle.grammar.proofs.Basics.{rules}
-use Rattle.grammar.proofs.Basics.{sym, arith}
+use Rattle.grammar.proofs.Basics.{sym, arith, rules}
 use Rattle.job.proofs.Records.{records_counted}
 use Rattle.machine.proofs.Starts.StartWalk.{walk_begins}
 use Rattle.machine.proofs.Starts.Giving.{giving_goes_on, giving_ends}

@@ -1,5 +1,4 @@
-use Rattle.grammar.proofs.Basics.{rules}
-use Rattle.grammar.proofs.Basics.{arith}
+use Rattle.grammar.proofs.Basics.{arith, rules}
 use Rattle.machine.proofs.Starts.Looping.{loop-place, no_loop, looped_begins, looped_goes_on, looped_ends}
 use Rattle.bit_machine.proofs.ByteTables.{bytes_as_long}
 use Rattle.bit_machine.proofs.Keeping.{kept_same, kept_then}

@@ -1,5 +1,4 @@
-use Rattle.grammar.proofs.Basics.{rules}
-use Rattle.grammar.proofs.Basics.{arith}
+use Rattle.grammar.proofs.Basics.{arith, rules}
 use Rattle.machine.proofs.Starts.StartWalk.{walk_begins}
 use Rattle.machine.proofs.Starts.Looping.{rules_go_on, rules_end}
 use Rattle.bit_machine.proofs.ByteTables.{bytes_as_long}
