@@ -1,5 +1,5 @@
--- `acceptance::final_word` meets its contract. The loop's invariant: the states noted, with those that the records from
--- i on have, are all final ones. Assumes nothing.
+-- `acceptance::final_word` meets its contract. The loop's invariant: the states noted, with those that the records
+-- from i on have, are all final ones. Assumes nothing.
 use Rattle.grammar.proofs.Basics.{◌≡◌, ◌-◌, length}
 use Rattle.job.specs.Format.{records_of}
 use Rattle.forms.proofs.FinalWord.{FinalFrom}

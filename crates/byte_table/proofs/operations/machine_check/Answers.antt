@@ -1,5 +1,5 @@
--- `operations::machine_check` meets its contract: the buffers and then the job, as `machine_check_lem` has them. Assumes
--- nothing.
+-- `operations::machine_check` meets its contract: the buffers and then the job, as `machine_check_lem` has them.
+-- Assumes nothing.
 use Rattle.machine.specs.Operations.{machine_check_by}
 use Rattle.byte_table.proofs.operations.machine_check.Goals as goal
 

@@ -8,5 +8,9 @@ unfolding report_check_lem
 returns c =
     record {
       checked =
-    rw (c.or_else-short.ensures.checked, c.short_lent-lent.ensures.checked, c.short_buffer.ensures.checked) at c.call_check.ensures.checked;
+          rw (
+            c.or_else-short.ensures.checked,
+            c.short_lent-lent.ensures.checked,
+            c.short_buffer.ensures.checked,
+          ) at c.call_check.ensures.checked;
     }
