@@ -1,6 +1,6 @@
 -- `operations::advance` meets its contract: a refusal leaves what is lent, and what passes the checks runs.
 -- Assumes nothing.
-use Rattle.grammar.proofs.Basics.{◌≡◌, refl, false, Bool, List, ℕ, arith, eq-eqb, ne_eqb, needs}
+use Rattle.grammar.proofs.Basics.{rules, ◌≡◌, refl, false, Bool, List, ℕ, eq-eqb, ne_eqb}
 use Rattle.job.specs.declared.Checked.{Checked}
 use Rattle.job.specs.Job.{job_of}
 use Rattle.machine.specs.Table.{Lent, statuses}
@@ -8,8 +8,7 @@ use Rattle.machine.specs.Step.{is_finished}
 use Rattle.machine.specs.Advance.{steps, steps_made, meetings_made}
 use Rattle.machine.specs.Operations.{machine_check_lem, advance_of, advance_by, advance_leaves}
 use Rattle.machine.proofs.MachineChecks.{machine_passed}
-use Rattle.byte_table.proofs.operations.advance.Statement.{statement}
-use Rattle.byte_table.proofs.operations.advance.Tie as tie
+use Rattle.byte_table.proofs.operations.advance.Goals as goal
 
 module _ (job : List ℕ) (m : Lent) (n : ℕ) (c : Checked) (checked : c ≡ machine_check_lem job m) where
   refuses : (c.number ≡ 0 → ⊥) →
@@ -37,18 +36,25 @@ module _ (job : List ℕ) (m : Lent) (n : ℕ) (c : Checked) (checked : c ≡ ma
   advances e m' f made met lent finished counted risen =
       rw (← checked, eq-eqb c.number 0 e, finished, lent, counted, risen)
 
-pub advance_spec : {M : Type 1} → statement M
-advance_spec =
-    tie.close
-    (tie.spec
-    (λ c κs. search needs)
-    (λ c. refl)
-    (λ c. refl)
-    (λ c. search (refuses, needs))
-    (λ c κs.
-    let e = c.before.before in
-    let p = machine_passed _ _ _ e.before.before.machine-check.ensures e.if1.false in
-    ((p.long, p.long_reasons), p.ok))
-    (λ c. search)
-    (λ c. search)
-    (λ c. search (advances, needs)))
+pub shape_of-table-then-checked-ne0 : goal.shape_of-table-then-checked-ne0
+shape_of-table-then-checked-ne0 c = refl
+
+pub shape_of-reasons-then-checked-ne0 : goal.shape_of-reasons-then-checked-ne0
+shape_of-reasons-then-checked-ne0 c = refl
+
+pub returns-then-checked-ne0 : goal.returns-then-checked-ne0
+returns-then-checked-ne0 c = record { outcome = search (refuses, rules) }
+
+pub run-ended-requires : goal.run-ended-requires
+run-ended-requires c =
+    let p = machine_passed _ _ _ c.machine_check-checked.ensures.checked c.if-checked-ne0.false in
+    record { long = (p.long, p.long_reasons); accepted = p.ok }
+
+pub shape_of-table : goal.shape_of-table
+shape_of-table c = search rules
+
+pub shape_of-reasons : goal.shape_of-reasons
+shape_of-reasons c = search rules
+
+pub returns : goal.returns
+returns c = record { outcome = search (advances, rules) }
