@@ -1,7 +1,9 @@
 -- The rows of a form's symbols packed one after the other: where all are, the bits have the done transitions that the
 -- table has for these symbols. Assumes nothing.
-use Rattle.grammar.proofs.Basics.{◌≡◌, refl, ◌∙◌, ap, true, false, Bool, ◌&&◌, ◌||◌, List, ℕ, ◌<◌, ◌+◌, ◌*◌, ◌/◌, ◌%◌, arith}
-use Rattle.grammar.proofs.Basics.{eqb, ltb, get_or, replicate, length, eqb-true, eqb-false, eq-eqb, cases, or_left, or_right}
+use Rattle.grammar.proofs.Basics.{◌≡◌, refl, ◌∙◌, ap, true, false, Bool, ◌&&◌, ◌||◌, List, ℕ, ◌<◌, ◌+◌, ◌*◌, ◌/◌, ◌%◌}
+use Rattle.grammar.proofs.Basics.{arith}
+use Rattle.grammar.proofs.Basics.{eqb, ltb, get_or, replicate, length, eqb-true, eqb-false, eq-eqb, cases, or_left}
+use Rattle.grammar.proofs.Basics.{or_right}
 use Rattle.machine.specs.Table.{table_place, says_done, statuses, done_in, done_at_lem, is_done_lem}
 use Rattle.bit_machine.specs.BitTable.{bit_at, bit_status, bit_statuses}
 use Rattle.packing.specs.Packing.{PackedRows}
@@ -32,7 +34,8 @@ packing_goes {form = form} {i = i} p below more =
           let same = eqb-true k i e in
           let column : (q * 64 + get_or form i 0) % 64 ≡ get_or form i 0 = omega arith in
           rw same (or_left _ _ (eq-eqb _ _ column)))
-          (λ e. let other = eqb-false k i e in or_right (eqb ((q * 64 + get_or form k 0) % 64) (get_or form i 0)) _ (p.has k q (omega arith) h));
+          (λ e. let other = eqb-false k i e in or_right (eqb ((q * 64 + get_or form k 0) % 64) (get_or form i 0)) _
+          (p.has k q (omega arith) h));
     }
 
 says_done_lem : (a d : Bool) → says_done (bit_status a d) ≡ d
