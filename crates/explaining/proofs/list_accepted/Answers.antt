@@ -1,0 +1,54 @@
+-- `explaining::list_accepted` meets its contract: the pass that counts tells whether the records fit, and the
+-- pass that writes starts from the same table and listing. Assumes nothing.
+use Rattle.grammar.proofs.Basics.{refl, false, arith, true_and_false}
+use Rattle.job.proofs.Keys.{keys_long}
+use Rattle.forms.proofs.Explaining.{ready, places_enough, may_pass, needed_few, refuses_13, may_write}
+use Rattle.forms.proofs.Explaining.{writes}
+use Rattle.explaining.proofs.list_accepted.Goals as goal
+
+pub sorted_rules-count-requires : goal.sorted_rules-count-requires
+sorted_rules-count-requires c = record { few = c.requires.able.0.job_accepted.few_rules }
+
+pub slice_bounds-rules-end : goal.slice_bounds-rules-end
+slice_bounds-rules-end c =
+    let e = c.sorted_rules-count.ensures in
+    keys_long c.requires.able.0.job_accepted _ _ e.count e.sorted
+
+pub list_all-needed-requires : goal.list_all-needed-requires
+list_all-needed-requires c =
+    let e = c.sorted_rules-count.ensures in
+    let r = ready c.sorted_rules-count.new.keys (c.requires.able, c.requires.accepted) (e.count, e.sorted) in
+    record {
+      sequence = (r.form_fits.short, places_enough r);
+      able = may_pass r false _ _ refl (λ w. true_and_false w refl);
+    }
+
+pub overflow_mul-needed : goal.overflow_mul-needed
+overflow_mul-needed c =
+    let e = c.sorted_rules-count.ensures in
+    let r = ready c.sorted_rules-count.new.keys (c.requires.able, c.requires.accepted) (e.count, e.sorted) in
+    record { fits = omega (arith, needed_few r _ c.list_all-needed.ensures.listed) }
+
+pub returns-then-listing-needed : goal.returns-then-listing-needed
+returns-then-listing-needed c =
+    let e = c.sorted_rules-count.ensures in
+    let r = ready c.sorted_rules-count.new.keys (c.requires.able, c.requires.accepted) (e.count, e.sorted) in
+    record { outcome = refuses_13 r _ c.list_all-needed.ensures.listed c.if-listing-needed.true }
+
+pub list_all-records-requires : goal.list_all-records-requires
+list_all-records-requires c =
+    let e = c.sorted_rules-count.ensures in
+    let r = ready c.sorted_rules-count.new.keys (c.requires.able, c.requires.accepted) (e.count, e.sorted) in
+    record {
+      sequence = (r.form_fits.short, places_enough r);
+      able = may_write r _ c.list_all-needed.ensures.listed c.if-listing-needed.false c.unmark.ensures.unmarked;
+    }
+
+pub returns : goal.returns
+returns c =
+    let e = c.sorted_rules-count.ensures in
+    let r = ready c.sorted_rules-count.new.keys (c.requires.able, c.requires.accepted) (e.count, e.sorted) in
+    record {
+      outcome = writes r _ c.list_all-needed.ensures.listed c.if-listing-needed.false c.unmark.ensures.unmarked
+          c.list_all-records.ensures.listed;
+    }
