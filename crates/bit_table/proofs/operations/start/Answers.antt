@@ -34,7 +34,7 @@ pub begin-states-requires : goal.begin-states-requires
 begin-states-requires c =
     record {
       able = let p = bits_passed _ _ _ c.bits_check-c.ensures.checked c.if-c-ne0.false in
-    (p.long, p.long_reasons, p.ok);
+          (p.long, p.long_reasons, p.ok);
     }
 
 pub returns : goal.returns
