@@ -24,5 +24,6 @@ returns c =
       reached =
           converted_short _ _ _ c.args.free.now c.args.bytes.now
           (sym c.is_long.ensures.says ∙ c.if-is_long.false)
-          (appended _ _ _ _ (rw c.short_record.ensures.record at c.put_record.ensures.put) c.requires.room.out_size (omega arith));
+          (appended _ _ _ _ (rw c.short_record.ensures.record at c.put_record.ensures.put) c.requires.room.out_size
+          (omega arith));
     }

@@ -9,5 +9,6 @@ returns-then-body-lt2 c =
     record {
       reached =
           short_written _ _ _ c.args.free.now c.args.body.now c.args.head c.if-body-lt2.true
-          (appended _ _ _ _ (rw c.short_rule.ensures.rule at c.put_record.ensures.put) c.requires.room.out_size (omega arith));
+          (appended _ _ _ _ (rw c.short_rule.ensures.rule at c.put_record.ensures.put) c.requires.room.out_size
+          (omega arith));
     }

@@ -20,5 +20,6 @@ returns c =
           let end : length c.args.body.now - 2 ≡ c.loop-k.k = omega arith in
           rw end
           (splitting_all _ _ _ _ _ _ _ _ c.loop-k.invariant.0 _ (omega arith)
-          (appended _ _ _ _ (rw end at c.put_record-2.ensures.put) c.loop-k.invariant.0.out_size (omega arith)) c.requires.long.1);
+          (appended _ _ _ _ (rw end at c.put_record-2.ensures.put) c.loop-k.invariant.0.out_size (omega arith))
+          c.requires.long.1);
     }

@@ -9,27 +9,31 @@ use Rattle.long_jobs.proofs.Formed.{well_formed}
 use Rattle.long_jobs.proofs.Remaining.{one_remains, none_remains}
 use Rattle.binarize.proofs.fresh.is_named.Goals as goal
 
-known : (longJob bytes : List ℕ) (i count : ℕ) → AllFormed (long_records_lem longJob) → count ≡ length (long_records_lem longJob)
+known : (longJob bytes : List ℕ) (i count : ℕ) → AllFormed (long_records_lem longJob)
+    → count ≡ length (long_records_lem longJob)
     → i < count → bytes ≡ get_or (long_records_lem longJob) i []
     → (length bytes ≡ 12) × (is_unknown_lem bytes ≡ false)
 known longJob bytes i count formed all below at =
-    let h : i < length (long_records_lem longJob) = omega arith in
-    (of_twelve_bytes longJob i h bytes at, rw at (well_formed (get_or (long_records_lem longJob) i []) (formed i h)).known)
+    let h : i < length (long_records_lem longJob) = omega arith in (
+      of_twelve_bytes longJob i h bytes at,
+      rw at (well_formed (get_or (long_records_lem longJob) i []) (formed i h)).known,
+    )
 
 module _ (rs : List (List ℕ)) (v count i : ℕ) (all : count ≡ length rs)
     (remains : is_named_lem rs v ≡ is_named_lem (drop i rs) v) where
-  module _ (bytes : List ℕ) (ok : Bool) (below : i < count) (at : bytes ≡ get_or rs i []) (is : ok ≡ names bytes v) where
-    here : is_named_lem rs v ≡ (ok || is_named_lem (drop (i + 1) rs) v)
-    unfolding is_named_lem
-    here =
-        let h : i < length rs = omega arith in
-        one_remains (λ xs. is_named_lem xs v) rs i remains [] h ∙ rw (← at, ← is)
+  module _ (bytes : List ℕ) (ok : Bool) (below : i < count) (at : bytes ≡ get_or rs i []) (is : ok ≡ names bytes v)
+    where
+      here : is_named_lem rs v ≡ (ok || is_named_lem (drop (i + 1) rs) v)
+      unfolding is_named_lem
+      here =
+          let h : i < length rs = omega arith in
+          one_remains (λ xs. is_named_lem xs v) rs i remains [] h ∙ rw (← at, ← is)
 
-    found : ok ≡ true → true ≡ is_named_lem rs v
-    found e = rw (here, e)
+      found : ok ≡ true → true ≡ is_named_lem rs v
+      found e = rw (here, e)
 
-    passed : ok ≡ false → is_named_lem rs v ≡ is_named_lem (drop (i + 1) rs) v
-    passed e = here ∙ rw e
+      passed : ok ≡ false → is_named_lem rs v ≡ is_named_lem (drop (i + 1) rs) v
+      passed e = here ∙ rw e
 
   over : count ≤ i → false ≡ is_named_lem rs v
   unfolding is_named_lem

@@ -7,7 +7,8 @@ use Rattle.binarize.proofs.fresh.is_named.Given as goal
 
 abbrev pub invariant-loop-i : goal.invariant-loop-i
 invariant-loop-i l =
-    (l.count ≡ length (long_records_lem l.source)) × (is_named_lem (long_records_lem l.source) l.v ≡ is_named_lem (drop l.i (long_records_lem l.source)) l.v)
+    (l.count ≡ length (long_records_lem l.source))
+    × (is_named_lem (long_records_lem l.source) l.v ≡ is_named_lem (drop l.i (long_records_lem l.source)) l.v)
 
 abbrev pub decreases-loop-i : goal.decreases-loop-i
 decreases-loop-i l = l.count - l.i

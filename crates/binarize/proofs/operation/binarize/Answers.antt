@@ -52,7 +52,8 @@ module _ (longJob out : List ℕ) where
 
         module _ (last : Checked)
             (last-is : last
-            ≡ or_else (missing true (map short_of (long_records_lem longJob))) (size_check_lem w.count (length out))) where
+            ≡ or_else (missing true (map short_of (long_records_lem longJob)))
+            (size_check_lem w.count (length out))) where
           last_decides : binarize_check longJob out ≡ last
           unfolding binarize_check
           last_decides =
@@ -120,8 +121,10 @@ returns-then-second-ne0 c =
 pub last_check-last-requires : goal.last_check-last-requires
 last_check-last-requires c =
     record {
-      few =
-          ((bytes_passed long_format _ (passed _ _ c.long_check-first.ensures.checked c.if-first-ne0.false)).0, c.walk-second.ensures.walked.few c.if-second-ne0.false);
+      few = (
+        (bytes_passed long_format _ (passed _ _ c.long_check-first.ensures.checked c.if-first-ne0.false)).0,
+        c.walk-second.ensures.walked.few c.if-second-ne0.false,
+      );
     }
 
 pub returns-then-last-ne0 : goal.returns-then-last-ne0

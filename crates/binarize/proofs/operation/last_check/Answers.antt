@@ -26,7 +26,8 @@ module _ (longJob : List ℕ) (t : Tally) (c b : Checked) (all : t ≡ tally_of 
   by_the_first : (c.number ≡ 0 → ⊥) → c ≡ or_else (missing true (map short_of (long_records_lem longJob))) b
   by_the_first n = rw (by_counts, ne_eqb c.number 0 n)
 
-  by_the_second : (d : Checked) → c.number ≡ 0 → d ≡ b → d ≡ or_else (missing true (map short_of (long_records_lem longJob))) b
+  by_the_second : (d : Checked) → c.number ≡ 0 → d ≡ b
+      → d ≡ or_else (missing true (map short_of (long_records_lem longJob))) b
   by_the_second d z at = rw (by_counts, eq-eqb c.number 0 z) at
 
 ruleset ways = (by_the_first, by_the_second)

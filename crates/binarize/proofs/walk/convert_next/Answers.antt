@@ -22,7 +22,8 @@ pub returns : goal.returns
 returns c =
     let r = c.convert-p.ensures.reached in
     record {
-      stepped = stepped _ _ (next_free c.args.free.now) _ _ _ c.requires.underway _ _ r c.requires.within.1 _ c.if-available-p.false
+      stepped = stepped _ _ (next_free c.args.free.now) _ _ _ c.requires.underway _ _ r c.requires.within.1 _
+          c.if-available-p.false
           c.check_from-c.ensures.fault c.check_from-c.ensures.counted;
       size = r.out_size;
     }

@@ -7,7 +7,8 @@ use Rattle.binarize.proofs.walk.walk.Given as goal
 
 abbrev pub invariant-loop-i : goal.invariant-loop-i
 invariant-loop-i l =
-    (l.i ≤ l.count) × (l.count ≡ length (long_records_lem l.source)) × Walking (long_records_lem l.source) l.free l.available l.i l.s l.written
+    (l.i ≤ l.count) × (l.count ≡ length (long_records_lem l.source))
+    × Walking (long_records_lem l.source) l.free l.available l.i l.s l.written
 
 abbrev pub decreases-loop-i : goal.decreases-loop-i
 decreases-loop-i l = l.count - l.i

@@ -15,7 +15,8 @@ module _ (limits : Limits) (needed : Bool) (job : List ℕ) (c : Checked)
   by_the_length z = rw (← is, ne_eqb _ _ z, ne_eqb _ _ z)
 
   by_the_walk : (r : Checked) → c.number ≡ 0
-      → r ≡ or_else (first_fault (job_format field_classes limits) [] (records_of job)) (missing needed (records_of job))
+      → r ≡ or_else (first_fault (job_format field_classes limits) [] (records_of job))
+      (missing needed (records_of job))
       → r ≡ check_of field_classes limits needed job
   unfolding check_of bytes_check
   by_the_walk r e w = rw (← is, eq-eqb _ _ e) w
@@ -26,7 +27,10 @@ pub returns-then-c-ne0 : goal.returns-then-c-ne0
 returns-then-c-ne0 c = record { checked = search ways }
 
 pub check_records-requires : goal.check_records-requires
-check_records-requires c = record { whole = length_passed _ _ _ (rw c.length_check-c.ensures.checked at c.if-c-ne0.false) }
+check_records-requires c =
+    record {
+      whole = length_passed _ _ _ (rw c.length_check-c.ensures.checked at c.if-c-ne0.false);
+    }
 
 pub returns : goal.returns
 returns c = record { checked = search ways }

@@ -10,7 +10,8 @@ use Rattle.job.proofs.Earlier.{none_so_far, has_at}
 use Rattle.job.proofs.Marks.{none_marked, search_starts, marked_on}
 use Rattle.job.proofs.Walk.{Walked, Read, walked_none, walked_on, walked_all, tally_within, fault_here}
 use Rattle.job.proofs.Walk.{refused_here}
-use Rattle.checks.proofs.check.check_records.Goals.{else-walk-test, then-walk-test+else-form-ne0+then-loop-j-test+then-alike}
+use Rattle.checks.proofs.check.check_records.Goals.{else-walk-test}
+use Rattle.checks.proofs.check.check_records.Goals.{then-walk-test+else-form-ne0+then-loop-j-test+then-alike}
 use Rattle.checks.proofs.check.check_records.Goals as goal
 
 -- the record is read
@@ -33,7 +34,8 @@ walk-init c = (omega arith, sym (records_counted _), walked_none _ _, none_marke
 pub returns-then-form-ne0 : goal.returns-then-form-ne0
 returns-then-form-ne0 c =
     record {
-      checked = let a = read c.walk.invariant.2 (omega arith) c.record_at-r.ensures.record c.form_fault-form.ensures.fault in
+      checked = let a = read c.walk.invariant.2 (omega arith) c.record_at-r.ensures.record
+          c.form_fault-form.ensures.fault in
           let z = c.if-form-ne0.true in
           refused_here a _ (fault_here a ∙ rw (ne_eqb _ 0 z)) z c.refuse.ensures.refused;
     }
@@ -57,7 +59,12 @@ returns-then-order-ne0 c =
       checked =
           let a = read c.walk.invariant.2 (omega arith) c.record_at-r.ensures.record c.form_fault-form.ensures.fault in
           refused_here a _
-          (fault_here a ∙ rw (c.if-form-ne0.false, none_before _ _ _ _ c.loop-j-test.false c.loop-j.invariant.0 c.loop-j.invariant.1, ← c.order_fault-order.ensures.fault))
+          (fault_here a ∙ rw (
+            c.if-form-ne0.false,
+            none_before _ _ _ _ c.loop-j-test.false c.loop-j.invariant.0
+                c.loop-j.invariant.1,
+            ← c.order_fault-order.ensures.fault,
+          ))
           c.if-order-ne0.true c.refuse-then-order-ne0.ensures.refused;
     }
 
@@ -75,7 +82,13 @@ walk-preserved c =
       c.walk.invariant.1,
       walked_on a
           (fault_here a
-          ∙ rw (c.if-form-ne0.false, none_before _ _ _ _ c.loop-j-test.false c.loop-j.invariant.0 c.loop-j.invariant.1, ← c.order_fault-order.ensures.fault, c.if-order-ne0.false))
+          ∙ rw (
+            c.if-form-ne0.false,
+            none_before _ _ _ _ c.loop-j-test.false c.loop-j.invariant.0
+                c.loop-j.invariant.1,
+            ← c.order_fault-order.ensures.fault,
+            c.if-order-ne0.false,
+          ))
           c.count_in-seen.ensures.counted,
       marked_on c.walk.invariant.3 _ a.here c.set_mark.ensures.marked,
     )

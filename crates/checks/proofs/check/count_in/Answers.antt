@@ -8,7 +8,8 @@ use Rattle.job.specs.Inside.Walk.{counted}
 use Rattle.checks.proofs.check.count_in.Goals as goal
 
 each_added : (t : Tally) (r : JobRecord) (rule : Bool) (a b n : ℕ)
-    → rule ≡ is_rule_lem r → a ≡ one_if_lem rule → b ≡ one_if_lem (eqb r.kind byte_s) → n ≡ one_if_lem (eqb r.kind byte_i)
+    → rule ≡ is_rule_lem r → a ≡ one_if_lem rule → b ≡ one_if_lem (eqb r.kind byte_s)
+    → n ≡ one_if_lem (eqb r.kind byte_i)
     → record { rules = t.rules + a; starts = t.starts + b; initials = t.initials + n } ≡ counted t r
 unfolding counted
 each_added t r rule a b n is p q s = rw (p, q, s, is)

@@ -19,7 +19,8 @@ pub overflow_add-end : goal.overflow_add-end
 overflow_add-end c = omega (arith, stands c.shown_part-part.result c.args.job.now c.shown_part-part.ensures.part)
 
 pub slice_bounds-result-end : goal.slice_bounds-result-end
-slice_bounds-result-end c = omega (arith, stands c.shown_part-part.result c.args.job.now c.shown_part-part.ensures.part)
+slice_bounds-result-end c =
+    omega (arith, stands c.shown_part-part.result c.args.job.now c.shown_part-part.ensures.part)
 
 pub returns : goal.returns
 returns c = record { shown = search shown }

@@ -13,12 +13,13 @@ bounds-text-at-2 c = search letter_stands
 
 pub returns-then-letter-eq120 : goal.returns-then-letter-eq120
 returns-then-letter-eq120 c =
-    let h = value_literal c.args.text.now c.args.at c.args.end c.requires.inside.1 c.requires.literal c.to_lower-letter.result
-    c.to_lower-letter.ensures.lowered c.if-text-at-eq34.false c.if-letter-eq120.true in
+    let h = value_literal c.args.text.now c.args.at c.args.end c.requires.inside.1 c.requires.literal
+    c.to_lower-letter.result c.to_lower-letter.ensures.lowered c.if-text-at-eq34.false c.if-letter-eq120.true in
     record { characters = h.0; ready = h.1 }
 
 pub returns : goal.returns
 returns c =
-    let h = prefixed_literal c.args.text.now c.args.at c.args.end c.requires.inside.1 c.requires.literal c.to_lower-letter.result
-    c.to_lower-letter.ensures.lowered c.if-text-at-eq34.false c.quoted-2.result c.quoted-2.ensures.characters c.if-letter-eq120.false in
+    let h = prefixed_literal c.args.text.now c.args.at c.args.end c.requires.inside.1 c.requires.literal
+    c.to_lower-letter.result c.to_lower-letter.ensures.lowered c.if-text-at-eq34.false c.quoted-2.result
+    c.quoted-2.ensures.characters c.if-letter-eq120.false in
     record { characters = h.0; ready = h.1 }

@@ -10,14 +10,15 @@ module _ (bytes : List ℕ) (long : Bool) (is : long ≡ is_long_lem bytes) wher
   unfolding is_ill_padded_lem
   too_long e h = rw (← is, e, lt-ltb 8 (length_byte bytes) h)
 
-  module _ (padding : List ℕ) (zero : Bool) (at : padding ≡ padding_of bytes) (zeros : zero ≡ all_below 1 padding) where
-    of_a_length : long ≡ true → length_byte bytes ≤ 8 → not zero ≡ is_ill_padded_lem bytes
-    unfolding is_ill_padded_lem
-    of_a_length e h = rw (zeros, at, ← is, e, le-ltb 8 (length_byte bytes) h)
+  module _ (padding : List ℕ) (zero : Bool) (at : padding ≡ padding_of bytes) (zeros : zero ≡ all_below 1 padding)
+    where
+      of_a_length : long ≡ true → length_byte bytes ≤ 8 → not zero ≡ is_ill_padded_lem bytes
+      unfolding is_ill_padded_lem
+      of_a_length e h = rw (zeros, at, ← is, e, le-ltb 8 (length_byte bytes) h)
 
-    not_long : long ≡ false → not zero ≡ is_ill_padded_lem bytes
-    unfolding is_ill_padded_lem
-    not_long e = rw (zeros, at, ← is, e)
+      not_long : long ≡ false → not zero ≡ is_ill_padded_lem bytes
+      unfolding is_ill_padded_lem
+      not_long e = rw (zeros, at, ← is, e)
 
 ruleset ways = (too_long, of_a_length, not_long)
 

@@ -12,7 +12,8 @@ module _ (longJob : List ℕ) (c : Checked) (is : c ≡ length_check_lem 49152 1
   unfolding bytes_check
   by_the_length z = rw (← is, ne_eqb _ _ z)
 
-  by_the_walk : (r : Checked) → c.number ≡ 0 → r ≡ first_fault long_format [] (long_records_lem longJob) → r ≡ long_check_lem longJob
+  by_the_walk : (r : Checked) → c.number ≡ 0 → r ≡ first_fault long_format [] (long_records_lem longJob)
+      → r ≡ long_check_lem longJob
   unfolding bytes_check
   by_the_walk r e w = rw (← is, eq-eqb _ _ e) w
 
@@ -22,7 +23,10 @@ pub returns-then-c-ne0 : goal.returns-then-c-ne0
 returns-then-c-ne0 c = record { checked = search ways }
 
 pub check_records-requires : goal.check_records-requires
-check_records-requires c = record { within = (length_passed _ _ _ (rw c.length_check-c.ensures.checked at c.if-c-ne0.false)).0 }
+check_records-requires c =
+    record {
+      within = (length_passed _ _ _ (rw c.length_check-c.ensures.checked at c.if-c-ne0.false)).0;
+    }
 
 pub returns : goal.returns
 returns c = record { checked = search ways }

@@ -13,7 +13,8 @@ module _ (t : Tally) (bytes : List ℕ) (form : ℕ) (formed : form ≡ form_fau
   unfolding fault_after
   ill_formed n = rw (← formed, ne_eqb form 0 n)
 
-  module _ (e : form ≡ 0) (r : JobRecord) (second : Bool) (is : r ≡ short_of bytes) (of : second ≡ is_second_by t r) where
+  module _ (e : form ≡ 0) (r : JobRecord) (second : Bool) (is : r ≡ short_of bytes)
+      (of : second ≡ is_second_by t r) where
     is_second_lem' : second ≡ true → 6 ≡ fault_after t bytes
     unfolding fault_after
     is_second_lem' s = rw (← formed, e, ← is, ← of, s)

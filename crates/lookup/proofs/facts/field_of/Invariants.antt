@@ -7,7 +7,8 @@ use Rattle.lookup.proofs.facts.field_of.Given as goal
 
 abbrev pub invariant-loop-i : goal.invariant-loop-i
 invariant-loop-i l =
-    (l.count ≡ length (records_of l.job)) × (field_of l.kind (records_of l.job) ≡ field_of l.kind (drop l.i (records_of l.job)))
+    (l.count ≡ length (records_of l.job))
+    × (field_of l.kind (records_of l.job) ≡ field_of l.kind (drop l.i (records_of l.job)))
 
 abbrev pub decreases-loop-i : goal.decreases-loop-i
 decreases-loop-i l = l.count - l.i

@@ -14,7 +14,8 @@ module _ (r : JobRecord) (rs : List JobRecord) (count i : ℕ) (all : count ≡ 
       sym (rw take-length at (has_at r rs (length rs) i l l (sym e ∙ t)))
 
   module _ (inv : has (take i rs) r ≡ false) where
-    other : (ok : Bool) → i < count → ok ≡ same (get_or rs i no_record) r → ok ≡ false → has (take (i + 1) rs) r ≡ false
+    other : (ok : Bool) → i < count → ok ≡ same (get_or rs i no_record) r → ok ≡ false
+        → has (take (i + 1) rs) r ≡ false
     other ok h e f = let l : i < length rs = omega arith in rw add-one (none_so_far r rs i l inv (sym e ∙ f))
 
     none : count ≤ i → false ≡ has rs r

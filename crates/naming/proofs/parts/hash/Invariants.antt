@@ -7,7 +7,8 @@ use Rattle.naming.proofs.parts.hash.Given as goal
 
 abbrev pub invariant-loop-at : goal.invariant-loop-at
 invariant-loop-at l =
-    (l.h < 1024) × (l.at ≤ l.p.end) × (hash_from l.h (part_of_lem l.text l.at l.p.end) ≡ hash_of (part_of_lem l.text l.p.at l.p.end))
+    (l.h < 1024) × (l.at ≤ l.p.end)
+    × (hash_from l.h (part_of_lem l.text l.at l.p.end) ≡ hash_of (part_of_lem l.text l.p.at l.p.end))
 
 abbrev pub decreases-loop-at : goal.decreases-loop-at
 decreases-loop-at l = l.p.end - l.at

@@ -10,12 +10,6 @@ find-requires c = record {
   table = search;
 }
 
-pub shape_of-entries-then-find-count : goal.shape_of-entries-then-find-count
-shape_of-entries-then-find-count c = search
-
-pub shape_of-buckets-then-find-count : goal.shape_of-buckets-then-find-count
-shape_of-buckets-then-find-count c = search
-
 pub returns-then-find-count : goal.returns-then-find-count
 returns-then-find-count c =
     record {

@@ -15,8 +15,10 @@ loop-k-init c =
 pub same_name-requires : goal.same_name-requires
 same_name-requires c =
     record {
-      inside =
-          (entry_inside c.requires.table c.loop-k.invariant c.loop-k-test.true c.name_of.ensures.part, c.requires.inside);
+      inside = (
+        entry_inside c.requires.table c.loop-k.invariant c.loop-k-test.true c.name_of.ensures.part,
+        c.requires.inside,
+      );
     }
 
 pub returns-then-same_name : goal.returns-then-same_name

@@ -14,7 +14,8 @@ pub returns-then-c-ne0 : goal.returns-then-c-ne0
 returns-then-c-ne0 c =
     record {
       left =
-          needs_refused _ c.args.map.now c.args.job.now c.count_bodies-variables.ensures.needs c.count_marks.ensures.count _
+          needs_refused _ c.args.map.now c.args.job.now c.count_bodies-variables.ensures.needs
+          c.count_marks.ensures.count _
           c.numbers_check-c.ensures.checked _ c.if-c-ne0.true c.refusal.ensures.refusal;
     }
 

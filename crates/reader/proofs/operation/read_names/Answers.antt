@@ -18,7 +18,8 @@ returns-then-c-ne0 c =
     record {
       left =
           names_refused _ _ c.args.map.now c.args.job.now c.requires.short c.requires.fine c.requires.room _
-          (names_long _ _ _ c.collect-count.ensures.names) _ c.names_check-c.ensures.checked _ c.if-c-ne0.true c.refusal.ensures.refusal;
+          (names_long _ _ _ c.collect-count.ensures.names) _ c.names_check-c.ensures.checked _ c.if-c-ne0.true
+          c.refusal.ensures.refusal;
     }
 
 -- past 17 and 18 by the names

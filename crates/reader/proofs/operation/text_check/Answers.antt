@@ -11,7 +11,9 @@ use Rattle.reader.proofs.operation.text_check.Goals as goal
 
 module _ (e : Edition) (text : List ℕ) (map : ℕ) where
   abbrev checks : Checked
-  checks = or_else (short_buffer_lem map 32 3) (or_else (text_check_lem (length text)) (fault_check_lem 16 (fault_of e text)))
+  checks =
+      or_else (short_buffer_lem map 32 3)
+      (or_else (text_check_lem (length text)) (fault_check_lem 16 (fault_of e text)))
 
   short_map : map < 32 → refused 10 3 ≡ checks
   short_map h = rw (lt-ltb map 32 h)
@@ -19,8 +21,8 @@ module _ (e : Edition) (text : List ℕ) (map : ℕ) where
   long_text : 32 ≤ map → 16384 < length text → refused 2 (length text) ≡ checks
   long_text l h = rw (le-ltb map 32 l, lt-ltb 16384 (length text) h)
 
-  by_scan : (c : Checked) (f : Fault) → 32 ≤ map → length text ≤ 16384 → f ≡ fault_of e text → c ≡ fault_check_lem 16 f →
-      c ≡ checks
+  by_scan : (c : Checked) (f : Fault) → 32 ≤ map → length text ≤ 16384 → f ≡ fault_of e text →
+      c ≡ fault_check_lem 16 f → c ≡ checks
   by_scan c f l h is e = e ∙ rw (le-ltb map 32 l, le-ltb 16384 (length text) h, is)
 
 ruleset ways = (short_map, long_text, by_scan)

@@ -16,7 +16,12 @@ number_characters-requires c =
 
 pub put_rules-n-requires : goal.put_rules-n-requires
 put_rules-n-requires c =
-    record { ready = c.requires.ready; fits = c.requires.fits; numbered = numbered_alike c.requires.used c.number_characters.ensures.numbered; size = length-replicate {A = ℕ} 256 0 }
+    record {
+      ready = c.requires.ready;
+      fits = c.requires.fits;
+      numbered = numbered_alike c.requires.used c.number_characters.ensures.numbered;
+      size = length-replicate {A = ℕ} 256 0;
+    }
 
 pub rules_check-c-requires : goal.rules_check-c-requires
 rules_check-c-requires c = record { few = few_rules _ c.put_rules-n.ensures.rules }

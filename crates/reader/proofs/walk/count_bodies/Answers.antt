@@ -17,7 +17,11 @@ loop-p-init c =
 
 pub read_body-b-requires : goal.read_body-b-requires
 read_body-b-requires c =
-    record { element = c.loop-p.invariant.begins c.loop-p-test.true; table = c.requires.ready.table; size = c.loop-p.invariant.size }
+    record {
+      element = c.loop-p.invariant.begins c.loop-p-test.true;
+      table = c.requires.ready.table;
+      size = c.loop-p.invariant.size;
+    }
 
 pub shape_of-used-then-long-eq-ITEMS : goal.shape_of-used-then-long-eq-ITEMS
 shape_of-used-then-long-eq-ITEMS c =
@@ -27,7 +31,8 @@ pub returns-then-long-eq-ITEMS : goal.returns-then-long-eq-ITEMS
 returns-then-long-eq-ITEMS c =
     record {
       needs =
-          too_long c.requires.ready c.requires.few c.loop-p.invariant c.loop-p-test.true c.read_body-b.ensures.read c.if-long-eq-ITEMS.true;
+          too_long c.requires.ready c.requires.few c.loop-p.invariant c.loop-p-test.true c.read_body-b.ensures.read
+          c.if-long-eq-ITEMS.true;
     }
 
 pub slice_bounds-count_items-end : goal.slice_bounds-count_items-end
@@ -39,7 +44,17 @@ slice_bounds-count_items-end-in-loop-p c =
 
 pub count_items-taken-requires : goal.count_items-taken-requires
 count_items-taken-requires c =
-    record { fit = part_fits c.requires.ready c.requires.few c.loop-p.invariant c.loop-p-test.true c.read_body-b.ensures.read c.if-long-eq-ITEMS.false; short = part_short c.requires.ready c.requires.few c.loop-p.invariant c.loop-p-test.true c.read_body-b.ensures.read c.if-long-eq-ITEMS.false; size = c.loop-p.invariant.counted.walked.table.size; few = c.loop-p.invariant.counted.few; marks = counted_marks c.loop-p.invariant.counted }
+    record {
+      fit =
+          part_fits c.requires.ready c.requires.few c.loop-p.invariant c.loop-p-test.true c.read_body-b.ensures.read
+          c.if-long-eq-ITEMS.false;
+      short =
+          part_short c.requires.ready c.requires.few c.loop-p.invariant c.loop-p-test.true c.read_body-b.ensures.read
+          c.if-long-eq-ITEMS.false;
+      size = c.loop-p.invariant.counted.walked.table.size;
+      few = c.loop-p.invariant.counted.few;
+      marks = counted_marks c.loop-p.invariant.counted;
+    }
 
 pub shape_of-used-then-taken-gt32 : goal.shape_of-used-then-taken-gt32
 shape_of-used-then-taken-gt32 c =
@@ -49,7 +64,8 @@ pub returns-then-taken-gt32 : goal.returns-then-taken-gt32
 returns-then-taken-gt32 c =
     record {
       needs =
-          too_many c.requires.ready c.requires.few c.loop-p.invariant c.loop-p-test.true c.read_body-b.ensures.read c.if-long-eq-ITEMS.false
+          too_many c.requires.ready c.requires.few c.loop-p.invariant c.loop-p-test.true c.read_body-b.ensures.read
+          c.if-long-eq-ITEMS.false
           c.count_items-taken.ensures.counted c.if-taken-gt32.true;
     }
 
@@ -65,7 +81,8 @@ loop-p-smaller c =
 
 pub loop-p-preserved : goal.loop-p-preserved
 loop-p-preserved c =
-    counting_on c.requires.ready c.requires.few c.loop-p.invariant c.loop-p-test.true c.read_body-b.ensures.read c.if-long-eq-ITEMS.false
+    counting_on c.requires.ready c.requires.few c.loop-p.invariant c.loop-p-test.true c.read_body-b.ensures.read
+    c.if-long-eq-ITEMS.false
     c.count_items-taken.ensures.counted c.if-taken-gt32.false c.next_place-p.ensures.place
 
 pub shape_of-used : goal.shape_of-used

@@ -34,7 +34,11 @@ take_letters-fresh-requires c =
 pub put_symbols-requires : goal.put_symbols-requires
 put_symbols-requires c =
     let letters = c.take_letters-fresh.ensures.taken.size in
-    record { fit = c.requires.fit; sizes = (letters, c.requires.sizes.1); room = omega (arith, c.requires.short, length-replicate {A = ℕ} 35 0) }
+    record {
+      fit = c.requires.fit;
+      sizes = (letters, c.requires.sizes.1);
+      room = omega (arith, c.requires.short, length-replicate {A = ℕ} 35 0);
+    }
 
 -- the front of the buffer for the symbols
 pub slice_bounds-put_body-end : goal.slice_bounds-put_body-end
@@ -43,7 +47,10 @@ slice_bounds-put_body-end c =
 
 pub put_body-rules-requires : goal.put_body-rules-requires
 put_body-rules-requires c =
-    record { size = c.requires.sizes.2; few = few_symbols _ c.requires.few c.requires.short c.take_letters-fresh.ensures.taken.few }
+    record {
+      size = c.requires.sizes.2;
+      few = few_symbols _ c.requires.few c.requires.short c.take_letters-fresh.ensures.taken.few;
+    }
 
 pub overflow_add-result : goal.overflow_add-result
 overflow_add-result c =
@@ -53,5 +60,6 @@ pub returns : goal.returns
 returns c =
     record {
       put =
-          all_put _ c.take_letters-fresh.ensures.taken c.put_symbols.ensures.symbols c.put_body-rules.ensures.put c.tail_count.ensures.tails;
+          all_put _ c.take_letters-fresh.ensures.taken c.put_symbols.ensures.symbols c.put_body-rules.ensures.put
+          c.tail_count.ensures.tails;
     }

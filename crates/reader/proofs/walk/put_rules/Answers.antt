@@ -16,12 +16,17 @@ loop-p-init c =
 
 pub read_body-b-requires : goal.read_body-b-requires
 read_body-b-requires c =
-    record { element = c.loop-p.invariant.begins c.loop-p-test.true; table = c.requires.ready.table; size = c.loop-p.invariant.size }
+    record {
+      element = c.loop-p.invariant.begins c.loop-p-test.true;
+      table = c.requires.ready.table;
+      size = c.loop-p.invariant.size;
+    }
 
 pub overflow_cast-head : goal.overflow_cast-head
 overflow_cast-head c =
     let head =
-    head_fits c.requires.ready c.requires.fits c.requires.numbered c.loop-p.invariant c.loop-p-test.true c.read_body-b.ensures.read in
+    head_fits c.requires.ready c.requires.fits c.requires.numbered c.loop-p.invariant c.loop-p-test.true
+    c.read_body-b.ensures.read in
     omega (arith, head)
 
 pub slice_bounds-put_items-end : goal.slice_bounds-put_items-end
@@ -35,7 +40,13 @@ pub put_items-put-requires : goal.put_items-put-requires
 put_items-put-requires c =
     let fits = c.requires.fits in
     let numbered = c.requires.numbered in
-    record { fit = items_fit c.requires.ready fits numbered c.loop-p.invariant c.loop-p-test.true c.read_body-b.ensures.read; short = part_short c.requires.ready fits numbered c.loop-p.invariant c.loop-p-test.true c.read_body-b.ensures.read; sizes = (c.loop-p.invariant.ordered.walked.table.size, numbered.size, c.loop-p.invariant.ordered.kept.size); few = few_taken c.requires.ready fits numbered c.loop-p.invariant c.loop-p-test.true c.read_body-b.ensures.read }
+    record {
+      fit = items_fit c.requires.ready fits numbered c.loop-p.invariant c.loop-p-test.true c.read_body-b.ensures.read;
+      short =
+          part_short c.requires.ready fits numbered c.loop-p.invariant c.loop-p-test.true c.read_body-b.ensures.read;
+      sizes = (c.loop-p.invariant.ordered.walked.table.size, numbered.size, c.loop-p.invariant.ordered.kept.size);
+      few = few_taken c.requires.ready fits numbered c.loop-p.invariant c.loop-p-test.true c.read_body-b.ensures.read;
+    }
 
 pub next_place-p-requires : goal.next_place-p-requires
 next_place-p-requires c = record {
@@ -51,7 +62,8 @@ loop-p-smaller c =
 
 pub loop-p-preserved : goal.loop-p-preserved
 loop-p-preserved c =
-    putting_on c.requires.ready c.requires.fits c.requires.numbered c.loop-p.invariant c.loop-p-test.true c.read_body-b.ensures.read
+    putting_on c.requires.ready c.requires.fits c.requires.numbered c.loop-p.invariant c.loop-p-test.true
+    c.read_body-b.ensures.read
     c.put_items-put.ensures.put c.next_place-p.ensures.place
 
 pub slice_bounds-put_letters-end : goal.slice_bounds-put_letters-end
@@ -59,7 +71,10 @@ slice_bounds-put_letters-end c = sym c.loop-p.invariant.ordered.walked.table.siz
 
 pub put_letters-requires : goal.put_letters-requires
 put_letters-requires c =
-    record { size = c.loop-p.invariant.ordered.kept.size; sizes = (c.loop-p.invariant.ordered.walked.table.size, c.requires.numbered.size) }
+    record {
+      size = c.loop-p.invariant.ordered.kept.size;
+      sizes = (c.loop-p.invariant.ordered.walked.table.size, c.requires.numbered.size);
+    }
 
 pub shape_of-keys : goal.shape_of-keys
 shape_of-keys c =
@@ -69,5 +84,6 @@ pub returns : goal.returns
 returns c =
     record {
       rules =
-          putting_ends c.requires.ready c.requires.fits c.requires.numbered c.loop-p.invariant c.loop-p-test.false c.put_letters.ensures.put;
+          putting_ends c.requires.ready c.requires.fits c.requires.numbered c.loop-p.invariant c.loop-p-test.false
+          c.put_letters.ensures.put;
     }

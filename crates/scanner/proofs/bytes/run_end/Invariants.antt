@@ -6,7 +6,8 @@ use Rattle.scanner.proofs.bytes.run_end.Given as goal
 
 abbrev pub invariant-loop-at : goal.invariant-loop-at
 invariant-loop-at l =
-    (l.at ≤ length l.text) × (l.at + span (test_of l.class) (drop l.at l.text) ≡ l.from + span (test_of l.class) (drop l.from l.text))
+    (l.at ≤ length l.text)
+    × (l.at + span (test_of l.class) (drop l.at l.text) ≡ l.from + span (test_of l.class) (drop l.from l.text))
 
 abbrev pub decreases-loop-at : goal.decreases-loop-at
 decreases-loop-at l = length l.text - l.at

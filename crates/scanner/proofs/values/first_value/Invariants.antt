@@ -7,7 +7,8 @@ use Rattle.scanner.proofs.values.first_value.Given as goal
 
 abbrev pub invariant-loop-at : goal.invariant-loop-at
 invariant-loop-at l =
-    (l.at ≤ l.to) × (l.value ≤ 255) × (values_from 0 (part_of_lem l.text l.from l.to) ≡ values_from l.value (part_of_lem l.text l.at l.to))
+    (l.at ≤ l.to) × (l.value ≤ 255)
+    × (values_from 0 (part_of_lem l.text l.from l.to) ≡ values_from l.value (part_of_lem l.text l.at l.to))
 
 abbrev pub decreases-loop-at : goal.decreases-loop-at
 decreases-loop-at l = l.to - l.at

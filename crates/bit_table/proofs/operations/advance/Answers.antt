@@ -1,6 +1,6 @@
 -- `operations::advance` meets its contract: a refusal leaves what is lent, and what passes the checks runs.
 -- Assumes nothing.
-use Rattle.grammar.proofs.Basics.{◌≡◌, refl, false, Bool, List, ℕ, eq-eqb, ne_eqb, needs}
+use Rattle.grammar.proofs.Basics.{◌≡◌, refl, false, Bool, List, ℕ, eq-eqb, ne_eqb, rules}
 use Rattle.job.specs.declared.Checked.{Checked}
 use Rattle.job.specs.Job.{job_of}
 use Rattle.machine.specs.Table.{Lent, statuses}
@@ -10,8 +10,7 @@ use Rattle.machine.specs.Operations.{advance_leaves}
 use Rattle.bit_machine.specs.Machine.{as_bytes, steps_bits}
 use Rattle.bit_machine.specs.Operations.{bits_check_lem, advance_bits_of, advance_bits_by}
 use Rattle.bit_machine.proofs.RunChecks.{bits_passed}
-use Rattle.bit_table.proofs.operations.advance.Statement.{statement}
-use Rattle.bit_table.proofs.operations.advance.Tie as tie
+use Rattle.bit_table.proofs.operations.advance.Goals as goal
 
 module _ (job : List ℕ) (m : Lent) (n : ℕ) (c : Checked) (checked : c ≡ bits_check_lem job m) where
   refuses : (c.number ≡ 0 → ⊥) →
@@ -40,18 +39,22 @@ module _ (job : List ℕ) (m : Lent) (n : ℕ) (c : Checked) (checked : c ≡ bi
   advances e m' f made met lent finished counted risen =
       rw (← checked, eq-eqb c.number 0 e, finished, lent, counted, risen)
 
-pub advance_spec : {M : Type 1} → statement M
-advance_spec =
-    tie.close
-    (tie.spec
-    (λ c κs. search needs)
-    (λ c. refl)
-    (λ c. refl)
-    (λ c. search (refuses, needs))
-    (λ c κs.
-    let e = c.before.before in
-    let p = bits_passed _ _ _ e.before.before.bits-check.ensures e.if1.false in
-    ((p.long, p.long_reasons), p.ok))
-    (λ c. search needs)
-    (λ c. search needs)
-    (λ c. search (advances, needs)))
+pub shape_of-bits-then-c-ne0 : goal.shape_of-bits-then-c-ne0
+shape_of-bits-then-c-ne0 c = refl
+
+pub shape_of-reasons-then-c-ne0 : goal.shape_of-reasons-then-c-ne0
+shape_of-reasons-then-c-ne0 c = refl
+
+pub returns-then-c-ne0 : goal.returns-then-c-ne0
+returns-then-c-ne0 c = record { outcome = search (refuses, rules) }
+
+pub run-ended-requires : goal.run-ended-requires
+run-ended-requires c =
+    let p = bits_passed _ _ _ c.bits_check-c.ensures.checked c.if-c-ne0.false in
+    record {
+      long = (p.long, p.long_reasons);
+      accepted = p.ok;
+    }
+
+pub returns : goal.returns
+returns c = record { outcome = search (advances, rules) }
