@@ -107,7 +107,7 @@ bit_new a b j l h = bit_and_lem a (4294967295 - b) j ∙ ap (λ x. bit_of a j &&
 pub still_same : (a b : List ℕ) (different i : ℕ) →
     (different ≡ 0 → (k : ℕ) → k < i → get_or a k 0 ≡ get_or b k 0) →
     different + bool_byte (not (eqb (get_or a i 0) (get_or b i 0))) ≡ 0 → (k : ℕ) → k < i + 1 →
-        get_or a k 0 ≡ get_or b k 0
+    get_or a k 0 ≡ get_or b k 0
 still_same a b different i before z k h =
     cases (eqb k i)
     (λ e. rw (eqb-true k i e) (cases (eqb (get_or a i 0) (get_or b i 0))

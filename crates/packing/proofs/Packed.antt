@@ -57,7 +57,7 @@ status_again Status.done = refl
 -- more rows count as packed where their bytes are 0; so does another test of the same rows
 pub packed_more : {rows : ℕ → Bool} (rows' : ℕ → Bool) {table bits : List ℕ} → PackedRows rows table bits →
     ((p : ℕ) → p < table_size → (rows (p / 32) ≡ rows' (p / 32)) ⊎ (get_or table p 0 ≡ 0)) →
-        PackedRows rows' table bits
+    PackedRows rows' table bits
 packed_more {rows} rows' {table} packed same =
     record {
       pending = λ p l. packed.pending p l ∙ either is_pending_lem refl p (same p l);

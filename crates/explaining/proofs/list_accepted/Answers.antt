@@ -28,7 +28,7 @@ overflow_mul-needed c =
         arith,
         needed_few (ready _ (c.requires.able, c.requires.accepted)
             (c.sorted_rules-count.ensures.count, c.sorted_rules-count.ensures.sorted)) _
-                c.list_all-needed.ensures.listed,
+            c.list_all-needed.ensures.listed,
       );
     }
 

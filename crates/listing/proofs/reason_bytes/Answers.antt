@@ -26,5 +26,5 @@ returns c =
       bytes =
           c.rule_bytes.ensures.bytes
           ∙ bytes_of_key c.args.keys.now _ _ _ c.reason_at-reason.ensures.reason c.requires.fits.fits
-              c.if-reason.false;
+          c.if-reason.false;
     }

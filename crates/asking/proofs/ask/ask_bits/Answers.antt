@@ -23,5 +23,5 @@ returns c =
     record {
       answer =
           ask_answered _ _ (none_refused c.ask_check-c.ensures.checked c.if-c-ne0.false)
-              c.is_accepted.ensures.accepted;
+          c.is_accepted.ensures.accepted;
     }

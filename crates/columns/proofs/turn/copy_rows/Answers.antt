@@ -35,6 +35,6 @@ returns c =
       copied =
           written_four _ _ (λ i w. RowIs (column_of c.args.there (table_of_bits c.args.bits.now)) (c.args.k + i) w)
           (omega arith) (rw add-zero c.column_row-first.ensures.row) c.column_row-second.ensures.row
-              c.column_row-third.ensures.row
+          c.column_row-third.ensures.row
           c.column_row-fourth.ensures.row;
     }

@@ -8,7 +8,7 @@ abbrev pub invariant-loop-q : goal.invariant-loop-q
 invariant-loop-q l =
     (l.q ≤ 32)
     × Written l.initial.words l.words 0 (l.q * 8)
-        (λ i w. RowIs (column_of l.there (table_of_bits l.bits)) (i / 8 * 64 + l.c * 8 + i % 8) w)
+    (λ i w. RowIs (column_of l.there (table_of_bits l.bits)) (i / 8 * 64 + l.c * 8 + i % 8) w)
 
 abbrev pub decreases-loop-q : goal.decreases-loop-q
 decreases-loop-q l = 32 - l.q

@@ -7,7 +7,7 @@ use Rattle.columns.proofs.turn.turn_columns.Given as goal
 abbrev pub invariant-loop-c : goal.invariant-loop-c
 invariant-loop-c l =
     (l.c ≤ 8) × (length l.words ≡ 256) × ColumnsTurned l.initial.index l.index l.base 0 l.c
-        (column_of l.there (table_of_bits l.bits))
+    (column_of l.there (table_of_bits l.bits))
 
 abbrev pub decreases-loop-c : goal.decreases-loop-c
 decreases-loop-c l = 8 - l.c

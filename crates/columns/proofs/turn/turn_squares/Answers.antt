@@ -38,6 +38,6 @@ returns c =
     record {
       turned =
           rounds c.turn_by.ensures.turned c.turn_by-2.ensures.turned c.turn_by-3.ensures.turned
-              c.turn_by-4.ensures.turned
+          c.turn_by-4.ensures.turned
           c.turn_by-5.ensures.turned;
     }

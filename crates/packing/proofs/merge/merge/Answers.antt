@@ -8,9 +8,12 @@ loop-n-init c = (omega arith, none_merged _ _)
 pub merge_part-requires : goal.merge_part-requires
 merge_part-requires c =
     record {
-      within =
-          (omega arith, c.requires.long.0, c.requires.long.1,
-              omega (arith, c.requires.long, c.loop-n.invariant.1.long));
+      within = (
+        omega arith,
+        c.requires.long.0,
+        c.requires.long.1,
+        omega (arith, c.requires.long, c.loop-n.invariant.1.long),
+      );
     }
 
 pub loop-n-preserved : goal.loop-n-preserved

@@ -15,9 +15,12 @@ loop-k-init c = (omega arith, omega arith, refl, λ before merges rows. rows)
 pub merge_row-requires : goal.merge_row-requires
 merge_row-requires c =
     record {
-      within =
-          (omega (arith, c.requires.within), c.requires.within.1, c.requires.within.2,
-              omega (arith, c.requires.within.3, c.loop-k.invariant.2));
+      within = (
+        omega (arith, c.requires.within),
+        c.requires.within.1,
+        c.requires.within.2,
+        omega (arith, c.requires.within.3, c.loop-k.invariant.2),
+      );
     }
 
 pub loop-k-preserved : goal.loop-k-preserved

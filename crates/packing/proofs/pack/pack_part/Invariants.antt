@@ -7,7 +7,7 @@ use Rattle.packing.proofs.pack.pack_part.Given as goal
 abbrev pub invariant-loop-k : goal.invariant-loop-k
 invariant-loop-k l =
     (l.n * 4 ≤ l.k) × (l.k ≤ l.n * 4 + 4) × (length l.bits ≡ length l.initial.bits)
-        × PackedRows (λ r. ltb r l.k) l.table l.bits
+    × PackedRows (λ r. ltb r l.k) l.table l.bits
 
 abbrev pub decreases-loop-k : goal.decreases-loop-k
 decreases-loop-k l = l.n * 4 + 4 - l.k

@@ -13,9 +13,11 @@ loop-q-init c = (
 pub pack_row-requires : goal.pack_row-requires
 pack_row-requires c =
     record {
-      within =
-          (omega (arith, c.requires.within), c.requires.within.1,
-              omega (arith, c.requires.within.2, c.loop-q.invariant.1));
+      within = (
+        omega (arith, c.requires.within),
+        c.requires.within.1,
+        omega (arith, c.requires.within.2, c.loop-q.invariant.1),
+      );
     }
 
 pub loop-q-preserved : goal.loop-q-preserved

@@ -12,7 +12,7 @@ in_row test table k j = test (get_or table (k * 32 + j) 0)
 abbrev pub invariant-loop-j : goal.invariant-loop-j
 invariant-loop-j l =
     (l.j ≤ 32) × FirstBits (in_row is_pending_lem l.table l.k) l.pending l.j
-        × FirstBits (in_row is_done_lem l.table l.k) l.done l.j
+    × FirstBits (in_row is_done_lem l.table l.k) l.done l.j
 
 abbrev pub decreases-loop-j : goal.decreases-loop-j
 decreases-loop-j l = 32 - l.j

@@ -56,7 +56,7 @@ returns c = let ok = c.requires.able.2 in
       written = begun_bits _ _ _ _ _ (rw clear at (kept_then _ _ _ given.kept looped.kept))
           (λ i h. omega (arith, c.slice_known-7-1.given i))
           (begun _ ok _ counted
-              (rules_lent ok _ _ c.sorted_rules-n.ensures.count c.sorted_rules-n.ensures.sorted) _ _ _ _ _ _
+          (rules_lent ok _ _ c.sorted_rules-n.ensures.count c.sorted_rules-n.ensures.sorted) _ _ _ _ _ _
           (omega (arith, bytes_length c.args.bits.now)) c.requires.able.1 (ap table_of_bits clear ∙ cleared_bytes _)
           c.clear_reasons.ensures.cleared given.given looped.looped);
     }

@@ -13,7 +13,7 @@ abbrev pub invariant-loop-i : goal.invariant-loop-i
 invariant-loop-i l =
     (l.count ≡ length (records_of l.job))
     × Walked giving_from (records_of l.job) (lent_of (table_of_bits l.initial.bits) l.initial.reasons)
-        (lent_of (table_of_bits l.bits) l.reasons) l.i
+    (lent_of (table_of_bits l.bits) l.reasons) l.i
     × Kept l.initial.bits l.bits × NoneDone l.bits
 
 abbrev pub decreases-loop-i : goal.decreases-loop-i

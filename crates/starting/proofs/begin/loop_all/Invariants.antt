@@ -10,7 +10,7 @@ use Rattle.starting.proofs.begin.loop_all.Given as goal
 abbrev pub invariant-loop-q : goal.invariant-loop-q
 invariant-loop-q l =
     Looped l.states l.variable l.reason (lent_of (table_of_bits l.initial.bits) l.initial.reasons)
-        (lent_of (table_of_bits l.bits) l.reasons) l.q
+    (lent_of (table_of_bits l.bits) l.reasons) l.q
     × Kept l.initial.bits l.bits
 
 abbrev pub decreases-loop-q : goal.decreases-loop-q

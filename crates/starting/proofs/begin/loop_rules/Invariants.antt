@@ -12,7 +12,7 @@ use Rattle.starting.proofs.begin.loop_rules.Given as goal
 abbrev pub invariant-loop-k : goal.invariant-loop-k
 invariant-loop-k l =
     Walked (looping_all l.states) (rules_of_keys l.keys) (lent_of (table_of_bits l.initial.bits) l.initial.reasons)
-        (lent_of (table_of_bits l.bits) l.reasons) l.k
+    (lent_of (table_of_bits l.bits) l.reasons) l.k
     × Kept l.initial.bits l.bits
 
 abbrev pub decreases-loop-k : goal.decreases-loop-k

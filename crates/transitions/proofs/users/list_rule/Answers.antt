@@ -12,9 +12,12 @@ pub append-requires : goal.append-requires
 append-requires c =
     record {
       room =
-          let fits = body_fits _ _ c.unpack-rule.ensures.rule c.requires.fits.0 in
-          (fits.second, omega (arith, c.requires.fits.1.at_most _ fits.second), room_wider (omega arith)
-              c.requires.fits.1);
+          let fits = body_fits _ _ c.unpack-rule.ensures.rule c.requires.fits.0 in (
+            fits.second,
+            omega (arith, c.requires.fits.1.at_most _ fits.second),
+            room_wider (omega arith)
+                c.requires.fits.1,
+          );
     }
 
 pub append-requires-then-rule : goal.append-requires-then-rule
