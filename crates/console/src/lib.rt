@@ -1,7 +1,7 @@
 // What the programs share: their words, reading a job from standard input, and writing to standard output.
 #![tactic(auto)]
 
-ghost use Rattle.std.specs.Prelude.{◌≡◌, ◌≤◌, length, IfOk};
+ghost use Rattle.std.specs.Prelude.{◌≡◌, ◌≤◌, length, IfOk, OnErr};
 ghost use Rattle.console.specs.Part.{first_bytes};
 
 use std::env::{Env, FillError};
@@ -38,9 +38,10 @@ pub fn has_no_words(rt: &(impl Env + Eprint), usage: &str) -> bool {
 }
 
 // Reads the input until the buffer is full or the input ends, and returns how many bytes it put at the start of the
-// buffer.
+// buffer. The only error is that of a read that fails; it leaves the buffer as long as it was.
 pub fn read_input<R: Read>(input: &mut R, buf: &mut [u8]) -> io::Result<usize>
     ensures within { IfOk result (λ n. n ≤ length buf.new) }
+    ensures failed { OnErr result (length buf.new ≡ length buf.old) }
 {
     let mut len = 0;
     while len < buf.len() {
