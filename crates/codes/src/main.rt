@@ -19,7 +19,7 @@ fn codes(rt: &HostRuntime, job: &[u8]) {
 }
 
 fn main(rt: HostRuntime) {
-    if !console::has_no_words(&rt, "usage: ropeclover-codes < JOB; it takes no words\n") {
+    if !console::has_no_words(&rt, b"usage: ropeclover-codes < JOB; it takes no words\n") {
         return;
     }
     let mut buffer = [0u8; INPUT_BYTES];

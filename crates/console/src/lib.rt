@@ -19,8 +19,8 @@ pub fn has_word(rt: &impl Env, i: usize) -> bool {
 }
 
 // Writes a text to standard error, as far as that takes it.
-pub fn tell(rt: &impl Eprint, text: &str) {
-    let _ = rt.eprint(text);
+pub fn tell(rt: &HostRuntime, text: &[u8]) {
+    let _ = io::Write::write_all(&mut rt.stderr(), text);
 }
 
 // Names on standard error what failed, and why.
@@ -29,7 +29,7 @@ pub fn tell_failure(rt: &impl Eprint, what: &str, error: &io::Error) {
 }
 
 // Whether the command line has no words; where it has some, the usage goes to standard error.
-pub fn has_no_words(rt: &(impl Env + Eprint), usage: &str) -> bool {
+pub fn has_no_words(rt: &HostRuntime, usage: &[u8]) -> bool {
     if !has_word(rt, 1) {
         return true;
     }

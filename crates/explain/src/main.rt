@@ -182,7 +182,7 @@ fn main(rt: HostRuntime) {
     if MOST_WORDS < count {
         console::tell(
             &rt,
-            "ropeclover-explain: too many symbols; a form has at most 64\n",
+            b"ropeclover-explain: too many symbols; a form has at most 64\n",
         );
         return;
     }
@@ -190,7 +190,7 @@ fn main(rt: HostRuntime) {
     if MOST_WORDS < symbols {
         console::tell(
             &rt,
-            "usage: ropeclover-explain [SYMBOL ..] < JOB\neach SYMBOL is a number from 0 to 63; without one the start symbol is explained, and '' is the empty form\n",
+            b"usage: ropeclover-explain [SYMBOL ..] < JOB\neach SYMBOL is a number from 0 to 63; without one the start symbol is explained, and '' is the empty form\n",
         );
         return;
     }

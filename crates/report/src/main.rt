@@ -20,7 +20,7 @@ fn report(rt: &HostRuntime, job: &[u8]) {
 }
 
 fn main(rt: HostRuntime) {
-    if !console::has_no_words(&rt, "usage: ropeclover-report < JOB; it takes no words\n") {
+    if !console::has_no_words(&rt, b"usage: ropeclover-report < JOB; it takes no words\n") {
         return;
     }
     let mut buffer = [0u8; INPUT_BYTES];
