@@ -1,7 +1,8 @@
 // What the programs share: their words, reading a job from standard input, and writing to standard output.
 #![tactic(auto)]
 
-ghost use Rattle.std.specs.Prelude.{◌≡◌, ◌≤◌, length, IfOk, OnErr};
+ghost use Rattle.std.specs.Prelude.{◌≡◌, ◌<◌, ◌≤◌, length, take, IfOk, OnErr};
+ghost use Rattle.std.specs.Io.KnownBytes.{Consumes, IsAtEnd};
 ghost use Rattle.console.specs.Part.{first_bytes};
 
 use std::env::{Env, FillError};
@@ -38,9 +39,12 @@ pub fn has_no_words(rt: &HostRuntime, usage: &[u8]) -> bool {
 }
 
 // Reads the input until the buffer is full or the input ends, and returns how many bytes it put at the start of the
-// buffer. The only error is that of a read that fails; it leaves the buffer as long as it was.
+// buffer: those that the input had, one after the other. The only error is that of a read that fails; it leaves the
+// buffer as long as it was.
 pub fn read_input<R: Read>(input: &mut R, buf: &mut [u8]) -> io::Result<usize>
     ensures within { IfOk result (λ n. n ≤ length buf.new) }
+    ensures consumed { IfOk result (λ n. Consumes (R.remaining input.old) (R.remaining input.new) (take n buf.new)) }
+    ensures ended { IfOk result (λ n. n < length buf.new → IsAtEnd (R.remaining input.new)) }
     ensures failed { OnErr result (length buf.new ≡ length buf.old) }
 {
     let mut len = 0;

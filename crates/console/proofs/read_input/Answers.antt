@@ -1,0 +1,40 @@
+-- A read writes behind the bytes that are there, so the front of the buffer is what it was and then what the read gave.
+-- Assumes nothing.
+use Rattle.std.proofs.Common.{◌≡◌, ℕ, ◌+◌, ◌-◌, ◌≤◌, List, ◌++◌, rules, arith, length, take, slice_range, sym, ap, ◌∙◌}
+use Rattle.std.proofs.Common.{subst, le_refl, drop_at, length-take-le}
+use Rattle.std.proofs.lemmas.Slice.{take-put_mid_below}
+use Rattle.std.specs.Io.KnownBytes.{Consumes}
+use Rattle.std.proofs.KnownBytes.{Consumes-trans}
+use borrow.Rule.Slice.PartMut.{put_mid, post_of}
+use lib.Seq.{take-add, take-append-le}
+use Rattle.console.proofs.read_input.Goals as goal
+
+-- the bytes up to b are those up to a and those behind
+split : (a b : ℕ) (old new : List ℕ) → a ≤ b → take a new ≡ take a old → take a old ++ slice_range new a b ≡ take b new
+split a b old new h front =
+    let same : a + (b - a) ≡ b = omega arith in
+    ap (λ l. l ++ slice_range new a b) (sym front) ∙ sym (take-add a (b - a) new) ∙ ap (λ n. take n new) same
+
+-- the first n bytes of what was put in at a
+put_first : (a k n : ℕ) (xs ys : List ℕ) → a ≤ length xs → n ≤ length ys →
+    slice_range (put_mid a k xs ys) a (a + n) ≡ take n ys
+put_first a k n xs ys within fits =
+    let same : (a + n) - a ≡ n = omega arith in
+    let after = post_of a k xs in
+    ap (take ((a + n) - a)) (drop_at (take a xs) (ys ++ after) a (length-take-le a xs within))
+    ∙ ap (λ m. take m (ys ++ after)) same ∙ take-append-le n ys after fits
+
+pub loop-len-preserved : goal.loop-len-preserved
+loop-len-preserved g c =
+    let from = c.loop-len.len in
+    let room = length c.loop-len.buf - from in
+    let within = c.loop-len.invariant.1 in
+    let put = put_mid from room c.loop-len.buf c.read.new.buf in
+    let part = put_first from room c.in_ok-n.n c.loop-len.buf c.read.new.buf within c.in_ok-n.ensures.bound.0 in
+    let joined =
+    split from (from + c.in_ok-n.n) c.loop-len.buf put (omega arith) (take-put_mid_below _ _ _ _ _ (le_refl _) within) in (
+      search rules,
+      search rules,
+      subst (Consumes _ _) (ap (λ l. take from c.loop-len.buf ++ l) (sym part) ∙ joined)
+          (Consumes-trans _ _ _ _ _ c.loop-len.invariant.2 c.in_ok-n.ensures.bytes.0),
+    )
