@@ -26,6 +26,7 @@ pub struct Character {
 }
 
 // What a piece of a text is. A literal is a string or a value.
+// Kept (1): NoPiece stands for no piece, since theorem LongestPieces speaks of it, and piece_of gives it.
 #[derive(Clone, Copy)]
 pub enum PieceKind {
     NamePiece,
@@ -61,6 +62,7 @@ pub enum Stage {
 }
 
 // The offset at which a text leaves the part, if it does.
+// Kept (1): not an Option, since theorems OfThePart and FirstOutside speak of it by these names.
 #[derive(Clone, Copy)]
 pub enum Fault {
     Nothing,

@@ -1,7 +1,7 @@
 -- A refusal by 18 or by 7 comes from its own check, and so from its own test. Assumes nothing.
 use Rattle.grammar.proofs.Basics.{◌≡◌, refl, ◌∙◌, sym, ap, ⊎_elim, inl, inr, ◌⊎◌, Bool, true, false, cond, List, ℕ}
 use Rattle.grammar.proofs.Basics.{◌<◌, ◌≤◌, suc, ◌*◌, arith, eqb, ltb, length, eqb-false, ltb-true, ltb-false, cases}
-use Rattle.job.specs.declared.Checked.{Checked}
+use Rattle.job.specs.Records.{Checked}
 use Rattle.job.specs.Records.{refused, accepted, or_else}
 use Rattle.job.specs.Check.{room_check}
 use Rattle.abnf.specs.declared.Edition.{Edition}

@@ -1,6 +1,6 @@
 -- The whole outcome of reading an ABNF text, for every input. Assumes nothing.
 use Rattle.std.specs.Prelude.{ℕ, ◌*◌, cond, List, ◌++◌, eqb, ltb, length, drop}
-use Rattle.job.specs.declared.Checked.{Checked}
+use Rattle.job.specs.Records.{Checked}
 use Rattle.job.specs.Format.{bytes_of}
 use Rattle.job.specs.Records.{refused, accepted, or_else}
 use Rattle.job.specs.Check.{short_buffer_lem, room_check}
@@ -9,7 +9,7 @@ use Rattle.abnf.specs.declared.Fault.{Fault}
 use Rattle.abnf.specs.declared.Fault.TheVariants.{Nothing, At}
 use Rattle.abnf.specs.Text.{Line}
 use Rattle.abnf.specs.Reading.{fault_of, lines_of}
-use Rattle.abnf_jobs.specs.declared.TextRead.{TextRead}
+use Rattle.abnf_jobs.specs.Answers.{TextRead}
 use Rattle.abnf_jobs.specs.Names.{name_fault_of}
 use Rattle.abnf_jobs.specs.Characters.{characters_used, mapped}
 use Rattle.abnf_jobs.specs.Roles.{roles_of}

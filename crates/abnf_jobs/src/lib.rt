@@ -3,12 +3,9 @@
 
 pub mod theorems;
 
-// What reading an ABNF text answers: a refusal's number and place, 0 and 0 where nothing is refused, the number of
-// records written and the number of characters in the map.
+// What is read of an ABNF text: the number of records written and the number of characters in the map.
 #[derive(Clone, Copy)]
-pub struct TextRead {
-    pub number: usize,
-    pub place: usize,
+pub struct Counts {
     pub records: usize,
     pub characters: usize,
 }

@@ -5,16 +5,18 @@ ghost use Rattle.long_jobs.specs.Convert.{split, convert};
 ghost use Rattle.long_jobs.specs.Walk.{next_free};
 ghost use Rattle.long_jobs.specs.Inside.Parts.{conversion_of, Room, Reached};
 
+use crate::WRITTEN_BYTES;
 use job::{JobRecord, SYMBOLS};
 use long_jobs::Progress;
-use long_records::dialect;
+use long_records::{LongRecord, dialect};
 
 // Splits a body of two or more: each pair rule but the last takes a variable for the rest.
+#[tactic(auto, using(long_jobs::proofs::ConversionSteps::steps))]
 fn split_long(
     body: &[u8],
     head: u8,
     free: &[u8; SYMBOLS],
-    written: &mut [u8],
+    written: &mut [u8; WRITTEN_BYTES],
     p: Progress,
 ) -> Progress
     requires long { (2 ≤ length body.now) × (length body.now ≤ 8) }
@@ -24,10 +26,8 @@ fn split_long(
 {
     let last = body.len() - 2;
     let mut variable = head;
-    let mut k = 0;
-    while k < last {
-        let next = p.taken + k;
-        let tail = free[next];
+    for k in 0..last {
+        let tail = free[p.taken + k];
         let r = JobRecord {
             kind: b'P',
             first: variable,
@@ -36,7 +36,6 @@ fn split_long(
         };
         records::format::put_record(written, p.count + k, r);
         variable = tail;
-        k += 1;
     }
     let r = JobRecord {
         kind: b'P',
@@ -51,40 +50,28 @@ fn split_long(
     }
 }
 
-// Writes the rules of an L record.
-fn convert_long(
-    body: &[u8],
-    head: u8,
+// Writes what a record of a long job is written as.
+#[tactic(auto, using(long_jobs::proofs::ConversionSteps::steps))]
+pub fn convert(
+    bytes: &LongRecord,
     free: &[u8; SYMBOLS],
-    written: &mut [u8],
+    written: &mut [u8; WRITTEN_BYTES],
     p: Progress,
 ) -> Progress
-    requires few { length body.now ≤ 8 }
-    requires room { Room p written.old }
-    ensures reached { Reached p result written.new
-        (split (next_free free.now) head body.now (conversion_of p written.old)) }
-{
-    if body.len() < 2 {
-        records::format::put_record(written, p.count, dialect::short_rule(head, body));
-        return Progress {
-            taken: p.taken,
-            count: p.count + 1,
-        };
-    }
-    split_long(body, head, free, written, p)
-}
-
-// Writes what a record of a long job is written as.
-pub fn convert(bytes: &[u8], free: &[u8; SYMBOLS], written: &mut [u8], p: Progress) -> Progress
-    requires long { length bytes.now ≡ 12 }
     requires room { Room p written.old }
     ensures reached { Reached p result written.new
         (convert (next_free free.now) bytes.now (conversion_of p written.old)) }
 {
-    if dialect::is_long(bytes) {
-        return convert_long(dialect::body(bytes), bytes[1], free, written, p);
-    }
-    records::format::put_record(written, p.count, dialect::short_record(bytes));
+    let r = if dialect::is_long(bytes) {
+        let body = dialect::body(bytes);
+        if 2 <= body.len() {
+            return split_long(body, bytes[1], free, written, p);
+        }
+        dialect::short_rule(bytes[1], body)
+    } else {
+        dialect::short_record(bytes)
+    };
+    records::format::put_record(written, p.count, r);
     Progress {
         taken: p.taken,
         count: p.count + 1,

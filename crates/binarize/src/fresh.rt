@@ -1,121 +1,83 @@
 // The variables that no record names.
-ghost use Rattle.std.specs.Prelude.{◌≡◌, false, [], suc, ◌<◌, length};
-ghost use Rattle.job.specs.Format.{field_classes, row_of, class_at};
+ghost use Rattle.std.specs.Prelude.{◌≡◌, ◌<◌};
+ghost use Rattle.job.specs.Format.{field_classes, class_at};
+ghost use Rattle.job.specs.Kinds.{kind_row};
 ghost use Rattle.long_jobs.specs.Dialect.{long_records_lem};
-ghost use Rattle.long_jobs.specs.Check.{is_unknown_lem};
-ghost use Rattle.long_jobs.specs.Fresh.{holds_symbol_lem, field_names_lem, short_names_lem, holds, names, is_named_lem};
-ghost use Rattle.long_jobs.specs.Fresh.{unnamed_below, free_in};
-ghost use Rattle.long_jobs.specs.Inside.Parts.{AllFormed, InFront};
+ghost use Rattle.long_jobs.specs.Fresh.{holds_symbol_lem, field_names_lem, short_names_lem, names, is_named_lem, free_in};
+ghost use Rattle.long_jobs.specs.Inside.Parts.{InFront};
 
-use job::{FieldClass, JobRecord, SYMBOLS};
-use long_records::{RECORD_BYTES, dialect};
+use job::{FieldClass, JobRecord, Kind, SYMBOLS};
+use long_records::{LongRecord, dialect};
+use records::format;
+
+// The variables that are free to be taken, lowest first: how many they are, and zeros behind them.
+#[derive(Clone, Copy)]
+pub struct Free {
+    pub variables: [u8; SYMBOLS],
+    pub count: usize,
+}
 
 // Whether fields of a class name symbols.
 fn holds_symbol(class: FieldClass) -> bool
     ensures says { result ≡ holds_symbol_lem class }
 {
-    match class {
-        FieldClass::Zero => false,
-        FieldClass::Variable => true,
-        FieldClass::Symbol => true,
-        FieldClass::State => false,
-    }
+    matches!(class, FieldClass::Variable | FieldClass::Symbol)
 }
 
-// Whether a field of a row of the table, that holds a value, names v.
-fn field_names(row: usize, field: usize, value: u8, v: u8) -> bool
-    requires within { (row < 7) × (field < 3) }
-    ensures says { result ≡ field_names_lem (class_at field_classes row field) value v }
+// Whether a field of a kind, that holds a value, names v.
+fn field_names(kind: Kind, field: usize, value: u8, v: u8) -> bool
+    requires within { field < 3 }
+    ensures says { result ≡ field_names_lem (class_at field_classes (kind_row kind) field) value v }
 {
-    if holds_symbol(records::format::field_class(row, field)) {
-        return value == v;
-    }
-    false
+    holds_symbol(format::field_class(kind, field)) && value == v
 }
 
-// Whether a record of a job names v.
+// Whether a record of a job names v. One of no kind names nothing.
+#[tactic(auto, unfolding(long_jobs::specs::Fresh::short_names_lem))]
 fn short_names(r: JobRecord, v: u8) -> bool
-    requires known { row_of r.kind < 7 }
     ensures says { result ≡ short_names_lem r v }
 {
-    let row = records::format::kind_row(r.kind);
-    if field_names(row, 0, r.first, v) {
-        return true;
-    }
-    if field_names(row, 1, r.second, v) {
-        return true;
-    }
-    field_names(row, 2, r.third, v)
-}
-
-// Whether v is among some bytes.
-fn holds(bytes: &[u8], v: u8) -> bool
-    ensures says { result ≡ holds bytes.now v }
-{
-    let mut i = 0;
-    while i < bytes.len() {
-        if bytes[i] == v {
-            return true;
-        }
-        i += 1;
-    }
-    false
+    let Ok(kind) = Kind::try_from(r.kind) else {
+        return false;
+    };
+    field_names(kind, 0, r.first, v)
+        || field_names(kind, 1, r.second, v)
+        || field_names(kind, 2, r.third, v)
 }
 
 // Whether a record names v.
-fn names(bytes: &[u8], v: u8) -> bool
-    requires known { (length bytes.now ≡ 12) × (is_unknown_lem bytes.now ≡ false) }
+#[tactic(auto, unfolding(long_jobs::specs::Fresh::names, long_jobs::specs::Fresh::holds), using(long_jobs::proofs::Tests::held))]
+fn names(bytes: &LongRecord, v: u8) -> bool
     ensures says { result ≡ names bytes.now v }
 {
     if dialect::is_long(bytes) {
-        if bytes[1] == v {
-            return true;
-        }
-        return holds(dialect::body(bytes), v);
+        bytes[1] == v || dialect::body(bytes).contains(&v)
+    } else {
+        short_names(dialect::short_record(bytes), v)
     }
-    short_names(dialect::short_record(bytes), v)
 }
 
 // Whether some record names v.
 fn is_named(source: &[u8], v: u8) -> bool
-    requires formed { AllFormed (long_records_lem source.now) }
     ensures says { result ≡ is_named_lem (long_records_lem source.now) v }
 {
-    let count = source.len() / RECORD_BYTES;
-    let mut i = 0;
-    while i < count {
-        if names(dialect::record_at(source, i), v) {
-            return true;
+    dialect::records(source).iter().any(|bytes| names(bytes, v))
+}
+
+// The variables that no record names.
+#[tactic(auto, using(long_jobs::proofs::Front::unnamed_few))]
+pub fn free_in(source: &[u8]) -> Free
+    ensures front { InFront result.variables result.count (free_in (long_records_lem source.now)) }
+{
+    let mut free = Free {
+        variables: [0; SYMBOLS],
+        count: 0,
+    };
+    for v in 0..32 {
+        if !is_named(source, v) {
+            free.variables[free.count] = v;
+            free.count += 1;
         }
-        i += 1;
     }
-    false
-}
-
-// Puts v behind the first n free variables unless some record names it. Returns how many there are then.
-fn add_free(source: &[u8], v: u8, free: &mut [u8; SYMBOLS], n: usize) -> usize
-    requires formed { AllFormed (long_records_lem source.now) }
-    requires front { (v < 32) × InFront free.old n (unnamed_below (long_records_lem source.now) v) }
-    ensures front { InFront free.new result (unnamed_below (long_records_lem source.now) (suc v)) }
-{
-    if is_named(source, v) {
-        return n;
-    }
-    free[n] = v;
-    n + 1
-}
-
-// Fills in the free variables, lowest first, and zeros past them. Returns how many there are.
-pub fn fill_free(source: &[u8], free: &mut [u8; SYMBOLS]) -> usize
-    requires formed { AllFormed (long_records_lem source.now) }
-    requires zeros { InFront free.old 0 [] }
-    ensures front { InFront free.new result (free_in (long_records_lem source.now)) }
-{
-    let mut n = 0;
-    let mut v: u8 = 0;
-    while v < 32 {
-        n = add_free(source, v, free, n);
-        v += 1;
-    }
-    n
+    free
 }

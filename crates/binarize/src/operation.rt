@@ -1,92 +1,51 @@
 // Binarize, for every input.
-ghost use Rattle.std.specs.Prelude.{◌≡◌, true, map, ◌++◌, ◌≤◌, length, drop};
+ghost use Rattle.std.specs.Prelude.{◌≡◌, true, ◌≤◌};
 ghost use Rattle.job.specs.Records.{or_else};
-ghost use Rattle.job.specs.Check.{missing};
-ghost use Rattle.long_jobs.specs.Dialect.{long_records_lem, short_of};
-ghost use Rattle.long_jobs.specs.Operation.{size_check_lem, binarize_of, binarize_leaves};
-ghost use Rattle.long_jobs.specs.Inside.Parts.{refusal};
+ghost use Rattle.job.specs.Inside.Walk.{missing_by};
+ghost use Rattle.job.specs.Refusals.{checked_of};
+ghost use Rattle.long_jobs.specs.Operation.{size_check_lem, binarize_of, binarize_leaves, binarized_of};
 
 use crate::{WRITTEN_BYTES, walk};
-use job::Checked;
-use long_jobs::Binarized;
+use job::{Cause, Checked, Refusal, Tally};
 use long_records::{RECORD_BYTES, check};
 
 // 2 for more bytes written than a job may have, then 13 for a buffer that they do not fit into.
+#[tactic(auto, unfolding(long_jobs::specs::Operation::size_check_lem))]
 fn size_check(count: usize, room: usize) -> Checked
     requires few { count ≤ 4352 }
-    ensures checked { result ≡ size_check_lem count room }
+    ensures checked { checked_of result ≡ size_check_lem count room }
 {
     let needed = 4 * count;
     if job::JOB_BYTES < needed {
-        return Checked {
-            number: 2,
+        return Err(Refusal {
+            cause: Cause::TooLong,
             place: needed,
-        };
+        });
     }
     records::write::room_check(count, room)
 }
 
-// The checks after the second walk: 8, 9, 2 and 13.
-fn last_check(source: &[u8], count: usize, room: usize) -> Checked
-    requires few { (length source.now ≤ 49152) × (count ≤ 4352) }
-    ensures checked { result ≡ or_else (missing true (map short_of (long_records_lem source.now)))
-        (size_check_lem count room) }
+// The checks after the second walk, by what the records count to and how many they are: 8, 9, 2 and 13.
+#[tactic(auto, using(job::proofs::Refusals::refused_first))]
+fn last_check(seen: Tally, records: usize, count: usize, room: usize) -> Checked
+    requires few { count ≤ 4352 }
+    ensures checked { checked_of result ≡ or_else (missing_by true seen records) (size_check_lem count room) }
 {
-    let seen = check::count_all(source);
-    let c = checks::check::missing_kind(seen, true, source.len() / RECORD_BYTES);
-    if c.number != 0 {
-        return c;
-    }
+    checks::check::missing_kind(seen, true, records)?;
     size_check(count, room)
 }
 
-// The answer of a refused call.
-fn refusal(number: usize, place: usize) -> Binarized
-    ensures refusal { result ≡ refusal number place }
+// Writes a long job with long bodies as an ordinary job: how many records. They are collected apart, so that a refused
+// call leaves the buffer as it was.
+pub fn binarize(source: &[u8], out: &mut [u8]) -> Result<usize, Refusal>
+    ensures left { binarize_leaves (binarized_of result) out.new ≡ binarize_of source.now out.old }
 {
-    Binarized {
-        number,
-        place,
-        records: 0,
-    }
-}
-
-// Copies bytes to the front of a buffer.
-fn write_front(bytes: &[u8], out: &mut [u8])
-    requires fits { length bytes.now ≤ length out.old }
-    ensures copied { out.new
-        ≡ bytes.now ++ drop (length bytes.now) out.old }
-{
-    let mut i = 0;
-    while i < bytes.len() {
-        out[i] = bytes[i];
-        i += 1;
-    }
-}
-
-// Writes a long job with long bodies as an ordinary job. The records are collected apart, so that a refused call leaves
-// the buffer as it was.
-pub fn binarize(source: &[u8], out: &mut [u8]) -> Binarized
-    ensures left { binarize_leaves result out.new ≡ binarize_of source.now out.old }
-{
-    let first = check::long_check(source);
-    if first.number != 0 {
-        return refusal(first.number, first.place);
-    }
+    check::long_check(source)?;
     let mut written = [0u8; WRITTEN_BYTES];
-    let second = walk::walk(source, &mut written);
-    if second.number != 0 {
-        return refusal(second.number, second.place);
-    }
-    let last = last_check(source, second.count, out.len());
-    if last.number != 0 {
-        return refusal(last.number, last.place);
-    }
-    let end = 4 * second.count;
-    write_front(&written[0..end], out);
-    Binarized {
-        number: 0,
-        place: 0,
-        records: second.count,
-    }
+    let count = walk::walk(source, &mut written)?;
+    let seen = check::count_all(source);
+    last_check(seen, source.len() / RECORD_BYTES, count, out.len())?;
+    let end = 4 * count;
+    out[..end].copy_from_slice(&written[..end]);
+    Ok(count)
 }

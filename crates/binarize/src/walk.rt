@@ -1,127 +1,90 @@
 // The second walk over a long job: it converts each record, and refuses by 14, 5 and 7.
-ghost use Rattle.std.specs.Prelude.{◌≡◌, ◌<◌, ◌≤◌, ◌%◌, length, take};
+ghost use Rattle.std.specs.Prelude.{◌≡◌, ◌<◌, ◌≤◌, ◌%◌, length, take, IfOk};
 ghost use Rattle.job.specs.Format.{records_of};
 ghost use Rattle.job.specs.Check.{count_rules};
+ghost use Rattle.job.specs.Refusals.{fault_number};
 ghost use Rattle.long_jobs.specs.Dialect.{long_records_lem};
 ghost use Rattle.long_jobs.specs.Convert.{convert};
 ghost use Rattle.long_jobs.specs.Walk.{fault_from, next_free};
-ghost use Rattle.long_jobs.specs.Inside.Parts.{AllFormed, conversion_of, progress_of, Underway, Stepped};
-ghost use Rattle.long_jobs.specs.Inside.Parts.{fault_of, WalkedTo, written_size};
+ghost use Rattle.long_jobs.specs.Inside.Parts.{conversion_of, Underway, Stepped, fault_of, WalkedTo};
 
-use crate::{convert, fresh};
-use job::{JobRecord, SYMBOLS};
-use long_jobs::{Progress, RuleCount, WalkEnd, WalkState};
-use long_records::{RECORD_BYTES, dialect};
+use crate::fresh::{self, Free};
+use crate::{WRITTEN_BYTES, convert};
+use job::{Cause, JobRecord, Refusal};
+use long_jobs::{Progress, WalkState};
+use long_records::{LongRecord, dialect};
+use records::format;
 
-// 5 or 7 where the record stands already or is one rule too many, else 0.
-fn written_fault(seen: &[u8], rules: usize, r: JobRecord) -> usize
-    ensures fault { result ≡ fault_of (records_of seen.now) rules r }
+// 5 or 7 where the record stands already or is one rule too many.
+fn written_fault(seen: &[u8], rules: usize, r: JobRecord) -> Result<(), Cause>
+    ensures fault { fault_number result ≡ fault_of (records_of seen.now) rules r }
 {
     if lookup::facts::has_record(seen, r) {
-        return 5;
+        return Err(Cause::Repeated);
     }
-    if records::format::is_rule(r) {
-        if job::RULES <= rules {
-            return 7;
-        }
+    if format::is_rule(r) && job::RULES <= rules {
+        return Err(Cause::TooManyRules);
     }
-    0
+    Ok(())
 }
 
-// 5 and 7 for the records from one on, after the rules of those before it.
-fn check_from(records: &[u8], from: usize, rules: usize) -> RuleCount
+// 5 and 7 for the records from one on, after the rules of those before it; else the number of all rules.
+#[tactic(auto, using(long_jobs::proofs::WrittenFault::steps))]
+fn check_from(records: &[u8], from: usize, rules: usize) -> Result<usize, Cause>
     requires whole { (length records.now % 4 ≡ 0) × (from ≤ length (records_of records.now)) }
     requires counted { (rules ≡ count_rules (take from (records_of records.now))) × (rules ≤ 256) }
-    ensures fault { result.number ≡ fault_from from (records_of records.now) }
-    ensures counted { result.number ≡ 0 →
-        (result.rules ≡ count_rules (records_of records.now)) × (result.rules ≤ 256) }
+    ensures fault { fault_number result ≡ fault_from from (records_of records.now) }
+    ensures counted { IfOk result (λ all. (all ≡ count_rules (records_of records.now)) × (all ≤ 256)) }
 {
-    let count = records.len() / 4;
     let mut rules = rules;
-    let mut j = from;
-    while j < count {
-        let r = records::format::record_at(records, j);
-        let at = 4 * j;
-        let number = written_fault(&records[0..at], rules, r);
-        if number != 0 {
-            return RuleCount { number, rules };
-        }
-        rules += records::one_if(records::format::is_rule(r)) as usize;
-        j += 1;
+    for j in from..records.len() / 4 {
+        let r = format::record_at(records, j);
+        written_fault(&records[..4 * j], rules, r)?;
+        rules += usize::from(format::is_rule(r));
     }
-    RuleCount { number: 0, rules }
+    Ok(rules)
 }
 
 // Converts record i.
+#[tactic(auto, using(long_jobs::proofs::WalkSteps::steps))]
 fn convert_next(
-    bytes: &[u8],
-    free: &[u8; SYMBOLS],
-    available: usize,
-    written: &mut [u8],
+    bytes: &LongRecord,
+    free: &Free,
+    written: &mut [u8; WRITTEN_BYTES],
     i: usize,
     s: WalkState,
-) -> WalkState
-    requires within { (length bytes.now ≡ 12) × (i < 4096) }
-    requires underway { Underway available i s written.old }
-    ensures stepped { Stepped available i (conversion_of (progress_of s) written.old)
-        (convert (next_free free.now) bytes.now
-        (conversion_of (progress_of s) written.old)) result written.new }
-    ensures size { length written.new ≡ written_size }
+) -> Result<WalkState, Refusal>
+    requires early { i < 4096 }
+    requires underway { Underway free.now.count i s written.old }
+    ensures stepped { Stepped free.now.count i (conversion_of s.progress written.old)
+        (convert (next_free free.now.variables) bytes.now (conversion_of s.progress written.old)) result written.new }
 {
-    let before = Progress {
-        taken: s.taken,
-        count: s.count,
-    };
-    let p = convert::convert(bytes, free, written, before);
-    if available < p.taken {
-        return WalkState {
-            number: 14,
-            taken: 0,
-            count: 0,
-            rules: 0,
-        };
+    let p = convert::convert(bytes, &free.variables, written, s.progress);
+    if free.count < p.taken {
+        return Err(Refusal {
+            cause: Cause::TooFewVariables,
+            place: i,
+        });
     }
-    let end = 4 * p.count;
-    let c = check_from(&written[0..end], s.count, s.rules);
-    WalkState {
-        number: c.number,
-        taken: p.taken,
-        count: p.count,
-        rules: c.rules,
+    match check_from(&written[..4 * p.count], s.progress.count, s.rules) {
+        Ok(rules) => Ok(WalkState { progress: p, rules }),
+        Err(cause) => Err(Refusal { cause, place: i }),
     }
 }
 
-// The whole walk. What is written until a refusal stays in the buffer.
-pub fn walk(source: &[u8], written: &mut [u8]) -> WalkEnd
-    requires formed { (length source.now ≤ 49152) × AllFormed (long_records_lem source.now)
-        × (length written.old ≡ written_size) }
+// The whole walk: how many records are written. What is written until a refusal stays in the buffer.
+#[tactic(auto, using(long_jobs::proofs::WalkSteps::steps))]
+pub fn walk(source: &[u8], written: &mut [u8; WRITTEN_BYTES]) -> Result<usize, Refusal>
+    requires within { length source.now ≤ 49152 }
     ensures walked { WalkedTo (long_records_lem source.now) result written.new }
 {
-    let mut free = [0u8; SYMBOLS];
-    let available = fresh::fill_free(source, &mut free);
+    let free = fresh::free_in(source);
     let mut s = WalkState {
-        number: 0,
-        taken: 0,
-        count: 0,
+        progress: Progress { taken: 0, count: 0 },
         rules: 0,
     };
-    let count = source.len() / RECORD_BYTES;
-    let mut i = 0;
-    while i < count {
-        let bytes = dialect::record_at(source, i);
-        s = convert_next(bytes, &free, available, written, i, s);
-        if s.number != 0 {
-            return WalkEnd {
-                number: s.number,
-                place: i,
-                count: 0,
-            };
-        }
-        i += 1;
+    for (i, bytes) in dialect::records(source).iter().enumerate() {
+        s = convert_next(bytes, &free, written, i, s)?;
     }
-    WalkEnd {
-        number: 0,
-        place: 0,
-        count: s.count,
-    }
+    Ok(s.progress.count)
 }

@@ -1,7 +1,7 @@
 -- The checks of start and advance on a bit table: where they refuse nothing, what is lent is long enough and the job
 -- is accepted. By the checks of a call. Assumes nothing.
 use Rattle.grammar.proofs.Basics.{◌≡◌, true, List, ℕ, ◌≤◌, length}
-use Rattle.job.specs.declared.Checked.{Checked}
+use Rattle.job.specs.Records.{Checked}
 use Rattle.job.specs.Accepted.{Accepted}
 use Rattle.job.proofs.CallChecks.{both_pass, long_enough, call_passed}
 use Rattle.machine.specs.Table.{Lent, reasons_size}

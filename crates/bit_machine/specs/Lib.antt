@@ -1,3 +1,4 @@
+pub mod Answers
 pub mod BitTable
 pub mod Machine
 pub mod Alike

@@ -1,14 +1,14 @@
 -- The bit table: the whole outcome of its operations, for every input: the answer and what is lent afterwards. Assumes
 -- nothing.
 use Rattle.std.specs.Prelude.{ℕ, true, cond, List, eqb, length}
-use Rattle.job.specs.declared.Checked.{Checked}
+use Rattle.job.specs.Records.{Checked}
 use Rattle.job.specs.Check.{Checks, job_check, short_buffer_lem, short_reasons, or_else}
 use Rattle.job.specs.Job.{job_of}
 use Rattle.machine.specs.Table.{Lent, statuses}
 use Rattle.machine.specs.Step.{is_finished}
 use Rattle.machine.specs.Advance.{steps, steps_made, meetings_made}
 use Rattle.machine.specs.Operations.{StartOutcome, start_leaves, start_refused, AdvanceOutcome, advance_refused}
-use Rattle.bit_machine.specs.declared.Counted.{Counted}
+use Rattle.bit_machine.specs.Answers.{Counted}
 use Rattle.bit_machine.specs.BitTable.{bits_size, done_bits}
 use Rattle.bit_machine.specs.Machine.{as_bytes, started_bits, steps_bits}
 

@@ -3,11 +3,3 @@
 #![tactic(auto)]
 
 pub mod theorems;
-
-// What the done count answers: a refusal's number and place, 0 and 0 where nothing is refused, and the count.
-#[derive(Clone, Copy)]
-pub struct Counted {
-    pub number: usize,
-    pub place: usize,
-    pub count: u64,
-}

@@ -2,7 +2,7 @@
 ghost use Rattle.std.specs.Prelude.{◌≡◌, ◌≤◌, length};
 ghost use Rattle.bit_machine.specs.BitTable.{bits_size, done_bits};
 
-use crate::{DONE_HALF, table};
+use crate::{Half, table};
 use transitions::ROWS;
 
 // The ones of the done half, word by word.
@@ -11,10 +11,8 @@ pub fn count_ones(bits: &[u8]) -> u64
     ensures counted { result ≡ done_bits bits.now }
 {
     let mut sum = 0;
-    let mut k = 0;
-    while k < ROWS {
-        sum += u32::count_ones(table::row(bits, DONE_HALF, k)) as u64;
-        k += 1;
+    for k in 0..ROWS {
+        sum += u64::from(table::row(bits, Half::Done, k).count_ones());
     }
     sum
 }

@@ -1,74 +1,47 @@
 // The bits of a place in the two halves, rows of 32 places as words, and the writes that change what a place says.
+// Kept (5): a table is a slice that may be longer than its two halves, as C lends it, and an array would ask more.
 ghost use Rattle.std.specs.Prelude.{◌≡◌, true, false, not, ℕ, ◌+◌, ◌*◌, ◌%◌, ◌<◌, ◌≤◌, length, get_or, set};
 ghost use Rattle.machine.specs.Table.{lent_of, table_size, reasons_size, is_absent, is_pending_lem, is_done_lem};
 ghost use Rattle.machine.specs.Inside.Offers.{VariablePlace, reason_place_of, offer_at, add_offer};
 ghost use Rattle.bit_machine.specs.BitTable.{bits_size, bit_of, bit_at, table_of_bits};
 ghost use Rattle.bit_machine.specs.Inside.Change.{RowWritten, BitSet, Kept};
+ghost use Rattle.bits.specs.Half.{number_of};
 
-use crate::{DONE_HALF, HALF_BYTES, PENDING_HALF};
-
-// Whether a place has its bit in a half.
-pub fn has_bit(bits: &[u8], half: usize, place: usize) -> bool
-    requires within { (half < 2) × (place < table_size) × (bits_size ≤ length bits.now) }
-    ensures bit { result ≡ bit_at bits.now half place }
-{
-    let byte = bits[half * HALF_BYTES + place / 8];
-    (byte >> (place % 8)) & 1 == 1
-}
-
-// A byte as a word.
-fn wide(byte: u8) -> u32
-    ensures same { result ≡ byte }
-{
-    byte as u32
-}
-
-// The lowest byte of a word.
-fn narrow(word: u32) -> u8
-    ensures low { result ≡ word % 256 }
-{
-    (word % 256) as u8
-}
+use crate::{Half, word};
 
 // The 32 bits of a row in a half as a word: one load.
-pub fn row(bits: &[u8], half: usize, k: usize) -> u32
-    requires within { (half < 2) × (k < 2048) × (bits_size ≤ length bits.now) }
-    ensures bits { (j : ℕ) → j < 32 → bit_of result j ≡ bit_at bits.now half (k * 32 + j) }
+pub fn row(bits: &[u8], half: Half, k: usize) -> u32
+    requires within { (k < 2048) × (bits_size ≤ length bits.now) }
+    ensures bits { (j : ℕ) → j < 32 → bit_of result j ≡ bit_at bits.now (number_of half) (k * 32 + j) }
 {
-    let at = half * HALF_BYTES + k * 4;
-    let low = wide(bits[at]) | (wide(bits[at + 1]) << 8);
-    let high = wide(bits[at + 2]) | (wide(bits[at + 3]) << 8);
-    low | (high << 16)
+    let at = half.begin() + k * 4;
+    u32::from_le_bytes([bits[at], bits[at + 1], bits[at + 2], bits[at + 3]])
 }
 
 // Writes the 32 bits of a row in a half: one store, which the next load of the row need not wait for, as it would for
 // that of a byte.
-pub fn write_row(bits: &mut [u8], half: usize, k: usize, word: u32)
-    requires within { (half < 2) × (k < 2048) × (bits_size ≤ length bits.old) }
-    ensures written { RowWritten bits.old bits.new half k word }
+pub fn write_row(bits: &mut [u8], half: Half, k: usize, word: u32)
+    requires within { (k < 2048) × (bits_size ≤ length bits.old) }
+    ensures written { RowWritten bits.old bits.new (number_of half) k word }
 {
-    let at = half * HALF_BYTES + k * 4;
-    bits[at] = narrow(word);
-    bits[at + 1] = narrow(word >> 8);
-    bits[at + 2] = narrow(word >> 16);
-    bits[at + 3] = narrow(word >> 24);
+    let at = half.begin() + k * 4;
+    bits[at..at + 4].copy_from_slice(&word.to_le_bytes());
 }
 
-// Sets the bit of a place in a half.
-fn set_bit(bits: &mut [u8], half: usize, place: usize)
-    requires within { (half < 2) × (place < table_size) × (bits_size ≤ length bits.old) }
-    ensures changed { BitSet bits.old bits.new half place true }
+// Whether a place has its bit in a half.
+pub fn has_bit(bits: &[u8], half: Half, place: usize) -> bool
+    requires within { (place < table_size) × (bits_size ≤ length bits.now) }
+    ensures bit { result ≡ bit_at bits.now (number_of half) place }
 {
-    let word = row(bits, half, place / 32) | (1 << (place % 32));
-    write_row(bits, half, place / 32, word);
+    word::has_bit(row(bits, half, place / 32), place % 32)
 }
 
-// Clears it.
-fn clear_bit(bits: &mut [u8], half: usize, place: usize)
-    requires within { (half < 2) × (place < table_size) × (bits_size ≤ length bits.old) }
-    ensures changed { BitSet bits.old bits.new half place false }
+// Sets the bit of a place in a half, or clears it.
+fn set_bit(bits: &mut [u8], half: Half, place: usize, value: bool)
+    requires within { (place < table_size) × (bits_size ≤ length bits.old) }
+    ensures changed { BitSet bits.old bits.new (number_of half) place value }
 {
-    let word = row(bits, half, place / 32) & !(1 << (place % 32));
+    let word = word::with_bit(row(bits, half, place / 32), place % 32, value);
     write_row(bits, half, place / 32, word);
 }
 
@@ -78,7 +51,7 @@ pub fn done_row(bits: &[u8], k: usize) -> u32
     ensures done { (j : ℕ) → j < 32 → bit_of result j ≡ is_done_lem (get_or (table_of_bits bits.now)
         (k * 32 + j) 0) }
 {
-    row(bits, DONE_HALF, k)
+    row(bits, Half::Done, k)
 }
 
 // Of a row the places that are there, pending or done.
@@ -87,7 +60,7 @@ pub fn there_row(bits: &[u8], k: usize) -> u32
     ensures there { (j : ℕ) → j < 32
         → bit_of result j ≡ not (is_absent (get_or (table_of_bits bits.now) (k * 32 + j) 0)) }
 {
-    row(bits, PENDING_HALF, k) | row(bits, DONE_HALF, k)
+    row(bits, Half::Pending, k) | row(bits, Half::Done, k)
 }
 
 // Of a row the places that are pending: a place with both bits is done.
@@ -96,7 +69,7 @@ pub fn pending_row(bits: &[u8], k: usize) -> u32
     ensures pending { (j : ℕ) → j < 32
         → bit_of result j ≡ is_pending_lem (get_or (table_of_bits bits.now) (k * 32 + j) 0) }
 {
-    row(bits, PENDING_HALF, k) & !row(bits, DONE_HALF, k)
+    row(bits, Half::Pending, k) & !row(bits, Half::Done, k)
 }
 
 // A place that is not done becomes pending.
@@ -106,7 +79,7 @@ pub fn make_pending(bits: &mut [u8], place: usize)
     ensures written { table_of_bits bits.new ≡ set (table_of_bits bits.old) place 1 }
     ensures kept { Kept bits.old bits.new }
 {
-    set_bit(bits, PENDING_HALF, place);
+    set_bit(bits, Half::Pending, place, true);
 }
 
 // A pending place becomes done: its pending bit is cleared.
@@ -116,8 +89,8 @@ pub fn make_done(bits: &mut [u8], place: usize)
     ensures written { table_of_bits bits.new ≡ set (table_of_bits bits.old) place 2 }
     ensures kept { Kept bits.old bits.new }
 {
-    clear_bit(bits, PENDING_HALF, place);
-    set_bit(bits, DONE_HALF, place);
+    set_bit(bits, Half::Pending, place, false);
+    set_bit(bits, Half::Done, place, true);
 }
 
 // A variable's transition becomes pending with its entry among the reasons, if it is absent. Answers whether it was.
@@ -136,10 +109,7 @@ pub fn offer(
         ≡ add_offer (offer_at place entry) (lent_of (table_of_bits bits.old) reasons.old) }
     ensures kept { Kept bits.old bits.new }
 {
-    if has_bit(bits, DONE_HALF, place) {
-        return false;
-    }
-    if has_bit(bits, PENDING_HALF, place) {
+    if has_bit(bits, Half::Done, place) || has_bit(bits, Half::Pending, place) {
         return false;
     }
     make_pending(bits, place);

@@ -7,7 +7,7 @@ use Rattle.abnf.specs.Reading.{characters_of_lem}
 use Rattle.abnf.specs.Meaning.{number_of}
 use Rattle.abnf_jobs.specs.Bodies.{item_of, items_of}
 use Rattle.cursor.specs.Cursor.{element_of}
-use Rattle.bodies.specs.Items.{code_of, KeptMore}
+use Rattle.bodies.specs.Items.{code_of}
 use Rattle.bodies.proofs.LiteralItems.{character_codes}
 
 module _ (names : List (List ℕ)) where
@@ -27,16 +27,14 @@ module _ (names : List (List ℕ)) where
       ap (map code_of) (first_items x xs) ∙ map-append code_of (items_of names (x ∷ [])) (items_of names xs)
 
   -- a literal's are its characters', a name's is its number
-  pub literal_kept : {before after : List ℕ} {n m : ℕ} (literal : Bool) (s : List ℕ) → literal ≡ true →
-      KeptMore before n (character_codes (characters_of_lem s)) after m →
-      KeptMore before n (element_codes (element_of literal s ∷ [])) after m
+  pub literal_kept : (literal : Bool) (s : List ℕ) → literal ≡ true →
+      element_codes (element_of literal s ∷ []) ≡ character_codes (characters_of_lem s)
   unfolding items_of
-  literal_kept true s t k = rw (append-nil (map item_of (characters_of_lem s))) k
-  literal_kept false s t k = absurd (true≢false (sym t))
+  literal_kept true s t = rw (append-nil (map item_of (characters_of_lem s)))
+  literal_kept false s t = absurd (true≢false (sym t))
 
-  pub name_kept : {before after : List ℕ} {n m number : ℕ} (literal : Bool) (s : List ℕ) → literal ≡ false →
-      number ≡ number_of names s → KeptMore before n ((512 + number) ∷ []) after m →
-      KeptMore before n (element_codes (element_of literal s ∷ [])) after m
+  pub name_kept : {number : ℕ} (literal : Bool) (s : List ℕ) → literal ≡ false → number ≡ number_of names s →
+      element_codes (element_of literal s ∷ []) ≡ (512 + number) ∷ []
   unfolding items_of
-  name_kept true s f is k = absurd (true≢false f)
-  name_kept false s f is k = rw is at k
+  name_kept true s f is = absurd (true≢false f)
+  name_kept false s f is = rw is

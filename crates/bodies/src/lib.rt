@@ -7,19 +7,16 @@ pub mod places;
 // The most items of a body that are kept: with 35 its tails alone take more than 32 variables.
 pub const ITEMS: usize = 35;
 
-// A body that is read: how many of its items are kept, whether its line ends, and the offset of what begins behind it,
-// another line then, else another body.
+// What begins behind a body, and at which offset: another line, or another body of the same line.
 #[derive(Clone, Copy)]
-pub struct BodyRead {
-    pub kept: usize,
-    pub ends: bool,
-    pub next: usize,
+pub enum Rest {
+    NextLine(usize),
+    NextBody(usize),
 }
 
-// Where a body begins, if there is one more, and the number of its name.
+// Where a body begins, and the number of its name.
 #[derive(Clone, Copy)]
 pub struct BodyPlace {
-    pub more: bool,
     pub at: usize,
     pub head: usize,
 }

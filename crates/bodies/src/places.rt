@@ -2,69 +2,39 @@
 ghost use Rattle.abnf.specs.declared.Stage.TheVariants.{LineStart};
 ghost use Rattle.abnf_jobs.specs.Bodies.{bodies_from};
 ghost use Rattle.cursor.specs.Cursor.{said_at, FineAt};
-ghost use Rattle.naming.specs.Table.{Table, names_in};
 ghost use Rattle.bodies.specs.Items.{Behind, bodies_behind};
 ghost use Rattle.bodies.specs.Places.{PlaceOf};
 
-use crate::{BodyPlace, BodyRead};
-use abnf::Edition;
+use crate::{BodyPlace, Rest};
 use cursor::rules;
-use naming::{Part, table};
+use naming::table::NamedText;
 
 // The first body of the line that begins at an offset, if one does.
-pub fn line_place(
-    edition: Edition,
-    text: &[u8],
-    at: usize,
-    entries: &[u16],
-    buckets: &[u16],
-    count: usize,
-) -> BodyPlace
-    requires fine { FineAt edition LineStart text.now at }
-    requires table { Table text.now entries.now buckets.now count }
-    ensures place { PlaceOf edition text.now
-        (names_in text.now entries.now count) result
-        (bodies_from (names_in text.now entries.now count)
-        (said_at edition LineStart text.now at).lines) }
+pub fn line_place(named: &NamedText, at: usize) -> Option<BodyPlace>
+    requires fine { FineAt named.now.edition LineStart named.now.text at }
+    ensures place { PlaceOf named.now.edition named.now.text named.now.names result
+        (bodies_from named.now.names (said_at named.now.edition LineStart named.now.text at).lines) }
 {
+    let text = named.text();
     if at < text.len() {
-        let head = rules::head_at(edition, text, at);
-        let name = Part { at, end: head.end };
-        return BodyPlace {
-            more: true,
+        let head = rules::head_at(named.edition(), text, at);
+        let number = named.number(&text[at..head.end]);
+        return Some(BodyPlace {
             at: head.body,
-            head: table::find(text, name, entries, buckets, count),
-        };
+            head: number,
+        });
     }
-    BodyPlace {
-        more: false,
-        at,
-        head: 0,
-    }
+    None
 }
 
 // The body behind one that is read.
-pub fn next_place(
-    edition: Edition,
-    text: &[u8],
-    head: usize,
-    b: BodyRead,
-    entries: &[u16],
-    buckets: &[u16],
-    count: usize,
-) -> BodyPlace
-    requires behind { Behind edition text.now b }
-    requires table { Table text.now entries.now buckets.now count }
-    ensures place { PlaceOf edition text.now
-        (names_in text.now entries.now count) result
-        (bodies_behind edition text.now (names_in text.now entries.now count) head b) }
+pub fn next_place(named: &NamedText, head: usize, rest: Rest) -> Option<BodyPlace>
+    requires behind { Behind named.now.edition named.now.text rest }
+    ensures place { PlaceOf named.now.edition named.now.text named.now.names result
+        (bodies_behind named.now.edition named.now.text named.now.names head rest) }
 {
-    if b.ends {
-        return line_place(edition, text, b.next, entries, buckets, count);
-    }
-    BodyPlace {
-        more: true,
-        at: b.next,
-        head,
+    match rest {
+        Rest::NextLine(next) => line_place(named, next),
+        Rest::NextBody(at) => Some(BodyPlace { at, head }),
     }
 }

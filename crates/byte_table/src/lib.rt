@@ -2,15 +2,14 @@
 // say is packed into it, and where the machine has left a place that says something new, its byte is written.
 #![tactic(auto)]
 
+use machine::Ended;
+
 pub mod operations;
 pub mod run;
 
-// What a run from a start leaves to say: the number of states, whether nothing is pending, the steps made and the rise
-// in pair meetings.
+// What a run from a start leaves to say: the number of states, and what the steps come to.
 #[derive(Clone, Copy)]
 pub struct RunFromStart {
     pub states: usize,
-    pub finished: bool,
-    pub steps: u64,
-    pub meetings: u64,
+    pub ended: Ended,
 }

@@ -4,7 +4,7 @@
 
 ghost use Rattle.std.specs.Prelude.{◌+◌, ◌*◌, ◌≤◌, length};
 
-use job::{Checked, JobRecord, Level};
+use job::{JobRecord, Level};
 use std::io;
 
 // Writes a byte as a number, after a blank.
@@ -22,13 +22,8 @@ fn write_bytes(rt: &impl Print, part: &[u8]) -> io::Result<()> {
 
 // Writes the answer on a job. `needed`: whether an I record is needed; showing never needs one.
 fn report(rt: &impl Print, job: &[u8], needed: bool) -> io::Result<()> {
-    let short = Checked {
-        number: 0,
-        place: 0,
-    };
-    let c = checks::call::call_check(short, job, Level::Full, needed);
-    let number = c.number;
-    let place = c.place;
+    let checked = checks::call::job_check(job, Level::Full, needed);
+    let (number, place) = job::numbers_of(checked.err());
     print!(rt; "{number} {place}")?;
     write_bytes(rt, checks::show::show_refused(job))?;
     println!(rt)
@@ -55,7 +50,7 @@ fn put(job: &mut [u8], i: usize, r: JobRecord)
 // One of 32,768 different records of a kind. Its fields are below 32, so they fit a P and a T.
 fn numbered(kind: u8, i: usize) -> JobRecord {
     JobRecord {
-        kind: kind,
+        kind,
         first: (i % 32) as u8,
         second: (i / 32 % 32) as u8,
         third: (i / 1024 % 32) as u8,
@@ -66,10 +61,8 @@ fn numbered(kind: u8, i: usize) -> JobRecord {
 fn fill(job: &mut [u8], n: usize, kind: u8)
     requires room { 4 * n ≤ length job.old }
 {
-    let mut i = 0;
-    while i < n {
+    for i in 0..n {
         put(job, i, numbered(kind, i));
-        i += 1;
     }
 }
 

@@ -1,7 +1,7 @@
 -- The check of a call depends on the lengths of what is lent and on the check of the job, so it is the same in both
 -- runs and all along a run. Assumes nothing.
 use Rattle.grammar.proofs.Basics.{◌≡◌, true, false, Bool, List, ℕ, ◌≤◌, arith, eqb, ltb, length, cases}
-use Rattle.job.specs.declared.Checked.{Checked}
+use Rattle.job.specs.Records.{Checked}
 use Rattle.job.specs.Check.{job_check, short_buffer_lem, short_table, short_reasons, or_else}
 use Rattle.job.specs.Accepted.{Accepted}
 use Rattle.job.proofs.JobChecks.{check_number}

@@ -3,7 +3,7 @@
 -- by what stands there. Assumes nothing.
 use Rattle.grammar.proofs.Basics.{◌≡◌, refl, ◌∙◌, sym, ap, true, cond, List, ℕ, ◌<◌, ◌≤◌, arith, eqb, length, le-ltb}
 use Rattle.grammar.specs.Rule.{Rule}
-use Rattle.job.specs.declared.Checked.{Checked}
+use Rattle.job.specs.Records.{Checked}
 use Rattle.job.specs.Accepted.{Accepted}
 use Rattle.job.specs.Check.{job_check, accepted}
 use Rattle.job.specs.Job.{Job, job_of}

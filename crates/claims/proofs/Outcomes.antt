@@ -1,6 +1,6 @@
 -- What a call leaves, by whether its check refuses it: the two cases of each operation's definition. Assumes nothing.
 use Rattle.grammar.proofs.Basics.{◌≡◌, refl, false, cond, List, [], ℕ, eqb, eqb-true, eqb-false, cases}
-use Rattle.job.specs.declared.Checked.{Checked}
+use Rattle.job.specs.Records.{Checked}
 use Rattle.job.specs.Job.{Job, job_of}
 use Rattle.machine.specs.Table.{Lent, statuses}
 use Rattle.machine.specs.Step.{is_finished}

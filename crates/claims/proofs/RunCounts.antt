@@ -1,7 +1,7 @@
 -- In a run the counts since a start add up to those of the smallest set. The invariant: where the counting says so,
 -- what is lent and the sums are those of the steps asked for since a start. Assumes nothing.
 use Rattle.grammar.proofs.Basics.{◌≡◌, ◌∙◌, sym, ap, false, List, ◌∷◌, [], ℕ, le-ltb}
-use Rattle.job.specs.declared.Checked.{Checked}
+use Rattle.job.specs.Records.{Checked}
 use Rattle.job.specs.Accepted.{Accepted}
 use Rattle.job.specs.Job.{job_of}
 use Rattle.job.proofs.AcceptedFacts.{in_range}

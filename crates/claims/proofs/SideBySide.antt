@@ -1,7 +1,7 @@
 -- Two runs side by side, before a call: the same records, the same lengths lent, and the same first part if that is
 -- known. A refused call is alike in both. Assumes nothing.
 use Rattle.grammar.proofs.Basics.{◌≡◌, refl, ◌∙◌, sym, ap, true, false, Bool, ◌||◌, List, ℕ, arith, ne_eqb}
-use Rattle.job.specs.declared.Checked.{Checked}
+use Rattle.job.specs.Records.{Checked}
 use Rattle.job.specs.Accepted.{Accepted}
 use Rattle.job.specs.Order.{SameRecords}
 use Rattle.machine.specs.Table.{Lent}

@@ -1,7 +1,7 @@
 -- A list of calls gives what the checks of the job and the canonical job say; a wider table changes neither, but for
 -- jobs that the narrower one refuses by 4. Assumes nothing.
 use Rattle.grammar.proofs.Basics.{◌≡◌, refl, ◌∙◌, ap, true, false, Bool, List, ◌∷◌, [], ℕ, arith}
-use Rattle.job.specs.declared.Checked.{Checked}
+use Rattle.job.specs.Records.{Checked}
 use Rattle.job.specs.Format.{field_classes}
 use Rattle.job.specs.Check.{Checks, check_of, full_limits, job_check, accepted}
 use Rattle.job.specs.Job.{job_of}

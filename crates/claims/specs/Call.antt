@@ -2,17 +2,17 @@
 -- bits, and one set of reasons. Assumes nothing.
 use Rattle.std.specs.Prelude.{ℕ, List, [], ◌∷◌}
 use Rattle.job.specs.Check.{Checks, job_check}
-use Rattle.machine.specs.declared.Started.{Started}
-use Rattle.machine.specs.declared.Advanced.{Advanced}
+use Rattle.machine.specs.Answers.{Started}
+use Rattle.machine.specs.Answers.{Advanced}
 use Rattle.machine.specs.Table.{Lent, Statuses, statuses, table_size}
 use Rattle.machine.specs.Operations.{StartOutcome, start_by, AdvanceOutcome, advance_by}
-use Rattle.bit_machine.specs.declared.Counted.{Counted}
+use Rattle.bit_machine.specs.Answers.{Counted}
 use Rattle.bit_machine.specs.BitTable.{bits_size, bit_statuses}
 use Rattle.bit_machine.specs.Operations.{start_bits_by, advance_bits_by, done_count_of}
-use Rattle.forms.specs.declared.Asked.{Asked}
-use Rattle.forms.specs.declared.Explained.{Explained}
+use Rattle.forms.specs.Answers.{Asked}
+use Rattle.forms.specs.Answers.{Explained}
 use Rattle.forms.specs.Operations.{ask_by, ask_bits_by, explain_by}
-use Rattle.verdicts.specs.declared.Verdicts.{Verdicts}
+use Rattle.verdicts.specs.Answers.{Verdicts}
 use Rattle.verdicts.specs.Operation.{verdicts_by}
 
 -- The bit table: a table has a byte for each place, or two bits

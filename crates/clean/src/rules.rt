@@ -1,52 +1,38 @@
 // The rules that stay, under new numbers. Rules are given by their sort keys.
-ghost use Rattle.std.specs.Prelude.{◌≡◌, map, ◌≤◌, length, take};
+ghost use Rattle.std.specs.Prelude.{◌≡◌, map};
 ghost use Rattle.job.specs.Inside.Keys.{Keys, rule_from, RuleFits};
 ghost use Rattle.copies.specs.Inside.Parts.{renumbered_record, renumbered_key};
 
-use job::{JobRecord, RuleFields, SYMBOLS};
+use job::{Body, JobRecord, Rule, SYMBOLS};
+use records::keys::RuleKeys;
 
 // The record of a rule under new numbers.
-fn renumber(rule: RuleFields, numbers: &[u8; SYMBOLS]) -> JobRecord
+fn renumber(rule: Rule, numbers: &[u8; SYMBOLS]) -> JobRecord
     requires rule { RuleFits rule }
     ensures record { result ≡ renumbered_record numbers.now (rule_from rule) }
 {
-    let first = numbers[rule.head as usize];
-    if rule.kind == b'E' {
-        return JobRecord {
-            kind: b'E',
-            first,
-            second: 0,
-            third: 0,
-        };
-    }
-    let second = numbers[rule.second as usize];
-    if rule.kind == b'U' {
-        return JobRecord {
-            kind: b'U',
-            first,
-            second,
-            third: 0,
-        };
-    }
+    let (kind, second, third) = match rule.body {
+        Body::Empty => (b'E', 0, 0),
+        Body::Unit(x) => (b'U', numbers[usize::from(x)], 0),
+        Body::Pair(x, y) => (b'P', numbers[usize::from(x)], numbers[usize::from(y)]),
+    };
     JobRecord {
-        kind: b'P',
-        first,
+        kind,
+        first: numbers[usize::from(rule.head)],
         second,
-        third: numbers[rule.third as usize],
+        third,
     }
 }
 
-// Puts the sort keys of rules under new numbers to the front of others.
-pub fn renumber_keys(kept: &[u32], numbers: &[u8; SYMBOLS], renumbered: &mut [u32])
+// The sort keys of rules under new numbers.
+pub fn renumber_keys(kept: &[u32], numbers: &[u8; SYMBOLS]) -> RuleKeys
     requires rules { Keys kept.now }
-    requires room { length kept.now ≤ length renumbered.old }
-    ensures keys { take (length kept.now) renumbered.new
-        ≡ map (renumbered_key numbers.now) kept.now }
+    ensures keys { result ≡ map (renumbered_key numbers.now) kept.now }
 {
-    let mut k = 0;
-    while k < kept.len() {
-        let r = renumber(records::rules::unpack(kept[k]), numbers);
-        renumbered[k] = records::rules::sort_key(r);
-        k += 1;
+    let mut renumbered = RuleKeys::new();
+    for key in kept {
+        let record = renumber(records::rules::unpack(*key), numbers);
+        renumbered.push(records::rules::sort_key(record));
     }
+    renumbered
 }

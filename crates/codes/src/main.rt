@@ -13,8 +13,9 @@ fn codes(rt: &HostRuntime, job: &[u8]) {
     let mut table = [0u8; job::TABLE_BYTES];
     let mut codes = [0u8; job::CODE_BYTES];
     let judged = judging::operation::verdicts(job, &mut table, &mut codes);
+    let (number, place) = job::numbers_of(judged.err());
     let mut out = [0u8; OUTPUT_BYTES];
-    let written = printing::operations::codes_output(judged.number, judged.place, &codes, &mut out);
+    let written = printing::operations::codes_output(number, place, &codes, &mut out);
     console::write_output(rt, &out, written.bytes);
 }
 

@@ -48,6 +48,7 @@ pub fn read_input<R: Read>(input: &mut R, buf: &mut [u8]) -> io::Result<usize>
     ensures failed { OnErr result (length buf.new ≡ length buf.old) }
 {
     let mut len = 0;
+    // Kept (3): a read gives as many bytes as it likes, so no range has the places.
     while len < buf.len() {
         let n = input.read(&mut buf[len..])?;
         if n == 0 {

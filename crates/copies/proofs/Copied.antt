@@ -4,7 +4,7 @@ use Rattle.grammar.proofs.Basics.{◌≡◌, refl, ◌∙◌, sym, ap, true, fal
 use Rattle.grammar.proofs.Basics.{take, take_at, ne_eqb, eqb-true, eqb-false, le-ltb, ltb-false, cases}
 use Rattle.grammar.specs.Rule.{Rule}
 use Rattle.job.specs.declared.JobRecord.{JobRecord}
-use Rattle.job.specs.declared.Checked.{Checked}
+use Rattle.job.specs.Records.{Checked}
 use Rattle.job.specs.Format.{bytes_of}
 use Rattle.job.specs.Check.{refused, job_check, room_check}
 use Rattle.job.specs.Accepted.{Accepted}

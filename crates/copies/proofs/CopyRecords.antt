@@ -1,27 +1,23 @@
 -- The records that the code writes, by flags and tables of numbers, are those of the clean copy. Assumes nothing.
 use Rattle.grammar.proofs.Basics.{◌≡◌, refl, ◌∙◌, sym, ap, ap₂, Bool, cond, List, ◌∷◌, [], ◌++◌, List·Memᴰ·head}
-use Rattle.grammar.proofs.Basics.{List·Memᴰ·tail, map, ℕ, ◌<◌, ◌≤◌, ◌+◌, ◌*◌, arith, ◌-◌, ltb, length, take, drop}
+use Rattle.grammar.proofs.Basics.{List·Memᴰ·tail, map, ℕ, ◌<◌, ◌≤◌, ◌+◌, ◌*◌, arith, ltb, length, drop}
 use Rattle.grammar.proofs.Basics.{length-map}
-use native.Mathlib.Nat.{sub-zero}
 use Rattle.grammar.specs.Rule.{Rule, empty, unit, pair, head, body}
 use Rattle.grammar.proofs.Counting.{count_cong}
 use Rattle.grammar.proofs.Strings.{All, nil, cons}
-use Rattle.job.specs.declared.Checked.{Checked}
+use Rattle.job.specs.Records.{Checked}
 use Rattle.job.specs.Format.{bytes_of}
 use Rattle.job.specs.Check.{room_check}
 use Rattle.job.specs.Job.{sort_key_lem, start_record, record_of_lem}
-use Rattle.job.specs.Inside.Keys.{record_of_key, rule_of_key, rules_of_keys}
+use Rattle.job.specs.Inside.Keys.{record_of_key, rule_of_key, Keys, rules_of_keys}
 use Rattle.job.specs.Theorems.InRange.{RuleInRange, RulesInRange}
 use Rattle.job.proofs.Keys.{key_record}
 use Rattle.job.proofs.KeyRules.{keys_in_range}
 use Rattle.job.proofs.JobChecks.{room_fits}
 use Rattle.usefulness.specs.Usefulness.{useful, useful_rules}
 use Rattle.usefulness.specs.Inside.Flags.{Flags, flagged}
-use Rattle.usefulness.specs.Inside.Kept.{Kept}
 use Rattle.usefulness.proofs.Rounds.{Below}
-use Rattle.usefulness.proofs.Raising.{flags_test}
 use Rattle.usefulness.proofs.Tests.{within_among}
-use Rattle.usefulness.proofs.KeptKeys.{kept_long}
 use Rattle.copies.specs.Copy.{new_number, renumbered, clean_start, clean_rules, clean_records}
 use Rattle.copies.specs.Operation.{clean_on, clean_leaves, refusal}
 use Rattle.copies.specs.Inside.Parts.{Numbers, number_in, renumbered_record, renumbered_key, rule_records, copy_records}
@@ -61,10 +57,10 @@ module _ (numbers : List ℕ) (bytes : (X : ℕ) → X < 64 → number_in number
       ap₂ ◌∷◌ (key_again (rule_of_key k) (fit (rule_of_key k) (List·Memᴰ·head refl)))
       (keys_again ks (λ ρ n. fit ρ (List·Memᴰ·tail n)))
 
--- the rules of the m keys kept are the useful ones
-module _ (rules : List Rule) (S : ℕ) {array : List ℕ} {m : ℕ} (kept : Kept array m)
-    (is : rules_of_keys (take m array) ≡ useful_rules rules S) (out : List ℕ) where
-  counted : length (clean_records rules S) ≡ m + 1
+-- the rules of the keys kept are the useful ones
+module _ (rules : List Rule) (S : ℕ) {kept : List ℕ} (fit : Keys kept) (is : rules_of_keys kept ≡ useful_rules rules S)
+    (out : List ℕ) where
+  counted : length (clean_records rules S) ≡ length kept + 1
   unfolding clean_records clean_rules
   counted =
       omega (
@@ -72,20 +68,19 @@ module _ (rules : List Rule) (S : ℕ) {array : List ℕ} {m : ℕ} (kept : Kept
         length-map (clean_rules rules S) record_of_lem,
         length-map (useful_rules rules S) (renumbered (new_number (useful rules S))),
         ap length is,
-        length-map (take m array) rule_of_key,
-        kept_long kept,
+        length-map kept rule_of_key,
       )
 
-  pub room_refused : (c : Checked) → c ≡ room_check (m + 1) (length out) → (c.number ≡ 0 → ⊥) →
+  pub room_refused : (c : Checked) → c ≡ room_check (length kept + 1) (length out) → (c.number ≡ 0 → ⊥) →
       clean_leaves (refusal c) out ≡ clean_on rules S out
   room_refused c e d = sym (no_room rules S out c (rw counted e) d)
 
-  module _ (below : Below 64 rules) (start : S < 64) (flags numbers : List ℕ) (held : Flags (useful rules S) flags)
-      (numbered : Numbers (flagged flags) numbers) where
+  module _ (below : Below 64 rules) (start : S < 64) (word : ℕ) (numbers : List ℕ) (held : Flags (useful rules S) word)
+      (numbered : Numbers (flagged word) numbers) where
     numbers_new : (X : ℕ) → X < 64 → number_in numbers X ≡ new_number (useful rules S) X
-    numbers_new X l = numbered.at X l ∙ number_same (flagged flags) (useful rules S) (flags_test held) X l
+    numbers_new X l = numbered.at X l ∙ number_same (flagged word) (useful rules S) held.at X l
 
-    records : copy_records numbers S (rules_of_keys (take m array)) ≡ clean_records rules S
+    records : copy_records numbers S (rules_of_keys kept) ≡ clean_records rules S
     unfolding clean_records clean_start clean_rules
     records =
         ap₂ ◌∷◌ (ap start_record (numbers_new S start))
@@ -96,18 +91,15 @@ module _ (rules : List Rule) (S : ℕ) {array : List ℕ} {m : ℕ} (kept : Kept
     bytes : (X : ℕ) → X < 64 → number_in numbers X < 256
     bytes X l = omega (arith, numbers_new X l, new_at_most (useful rules S) X)
 
-    pub all_copied : (renumbered after : List ℕ) → (room_check (m + 1) (length out)).number ≡ 0 →
-        take (length (take (m - 0) array)) renumbered ≡ map (renumbered_key numbers) (take (m - 0) array) →
+    pub all_copied : (renumbered after : List ℕ) → (room_check (length kept + 1) (length out)).number ≡ 0 →
+        renumbered ≡ map (renumbered_key numbers) kept →
         after
-        ≡ bytes_of (start_record (number_in numbers S) ∷ map record_of_key (take (m - 0) renumbered))
-        ++ drop (4 * length (take (m - 0) renumbered) + 4) out →
-        clean_leaves (record { number = 0; place = 0; records = m + 1 }) after ≡ clean_on rules S out
-    all_copied renumbered after e keys w =
-        let four : 4 * m + 4 ≡ 4 * (m + 1) = omega arith in
-        let fits : 4 * length (clean_records rules S) ≤ length out = rw counted (room_fits (m + 1) (length out) e) in
-        let are : take m renumbered ≡ map (renumbered_key numbers) (take m array) =
-        rw (sub-zero, kept_long kept) at keys in
-        let long : length (take m renumbered) ≡ m =
-        ap length are ∙ length-map (take m array) (renumbered_key numbers) ∙ kept_long kept in
-        let again = keys_again numbers bytes (take m array) (keys_in_range (take m array) kept.keys.fit) in
-        rw (w, sub-zero, long, are, again, records, four) (rw counted at (sym (clean_written rules S out fits)))
+        ≡ bytes_of (start_record (number_in numbers S) ∷ map record_of_key renumbered)
+        ++ drop (4 * length renumbered + 4) out →
+        clean_leaves (record { number = 0; place = 0; records = length kept + 1 }) after ≡ clean_on rules S out
+    all_copied renumbered after e are w =
+        let four : 4 * length kept + 4 ≡ 4 * (length kept + 1) = omega arith in
+        let fits : 4 * length (clean_records rules S) ≤ length out
+        = rw counted (room_fits (length kept + 1) (length out) e) in
+        let again = keys_again numbers bytes kept (keys_in_range kept fit.fit) in
+        rw (w, are, length-map, again, records, four) (rw counted at (sym (clean_written rules S out fits)))

@@ -1,3 +1,4 @@
+pub mod Answers
 pub mod Copy
 pub mod Operation
 pub mod Inside

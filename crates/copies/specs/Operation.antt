@@ -2,11 +2,11 @@
 use Rattle.std.specs.Prelude.{ℕ, ◌*◌, false, cond, List, ◌++◌, eqb, length, drop}
 use Rattle.grammar.specs.Rule.{Rule}
 use Rattle.job.specs.declared.JobRecord.{JobRecord}
-use Rattle.job.specs.declared.Checked.{Checked}
+use Rattle.job.specs.Records.{Checked}
 use Rattle.job.specs.Format.{bytes_of}
 use Rattle.job.specs.Check.{Checks, job_check, room_check}
 use Rattle.job.specs.Job.{job_of}
-use Rattle.copies.specs.declared.Cleaned.{Cleaned}
+use Rattle.copies.specs.Answers.{Cleaned}
 use Rattle.copies.specs.Copy.{clean_records}
 
 -- what clean leaves: the answer and the buffer

@@ -19,7 +19,6 @@ use Rattle.abnf.proofs.Walks.{PieceText, name_text, mark_text, slash_text, blank
 use Rattle.abnf.proofs.Walks.{end_text}
 use Rattle.cursor.specs.declared.After.{After}
 use Rattle.cursor.specs.declared.After.TheVariants.{ElementAfter, AlternativeAfter, RuleAfter}
-use Rattle.cursor.specs.declared.ElementPart.{ElementPart}
 use Rattle.scanner.specs.Parts.{part_of_lem}
 use Rattle.cursor.specs.Cursor.{said_after, uses_after, FineAt, FineAfter, ElementBegins, IsLiteral, is_literal}
 use Rattle.cursor.specs.Cursor.{IsElement, element_of, uses_in, ElementRead, AfterRead}
@@ -80,9 +79,6 @@ noted e text at (a_literal h) a = absurd (true≢false a)
 noted e text at none a = absurd (true≢false a)
 
 -- what stands after an element that ends at an offset, by the byte after the blanks
-abbrev part_after : ℕ → After → ℕ → ElementPart
-part_after end after next = record { literal = false; end = end; after = after; next = next }
-
 abbrev found_after : Edition → After → List ℕ → ℕ → Found
 found_after e after text next = record { said = said_after e after text next; uses = uses_after e after text next }
 
@@ -94,39 +90,33 @@ module _ (e : Edition) (text : List ℕ) (end sign : ℕ) (signs : sign ≡ past
   pub sign_stands : sign < length text
   sign_stands = within_text e FilledSpaced text sign refl sign_fine.fine
 
-  pub past_sign : sign + 1 ≤ length text
-  past_sign = omega (arith, sign_stands)
-
   sign_step : Step e FilledSpaced text sign (begun_at e text sign).kind (begun_at e text sign).more
   sign_step = step e FilledSpaced text sign sign_stands sign_fine.fine
 
-  read_after : (after : After) (next : ℕ) (x : ElementPart) → x ≡ part_after end after next → sign ≤ next →
-      next ≤ length text → found_at e FilledSpaced text sign ≡ found_after e after text next →
-      FineAfter e after text next → AfterRead e text end x
-  read_after after next x is order within found fine =
-      rw is
-      (record {
-        ends = refl;
+  read_after : (a : After) (next : ℕ) → sign ≤ next → next ≤ length text →
+      found_at e FilledSpaced text sign ≡ found_after e a text next → FineAfter e a text next → AfterRead e text end a next
+  read_after a next order within found fine =
+      record {
         order = omega arith;
         within = within;
         says = ap (λ (f : Found). f.said) (sign_fine.found ∙ found);
         uses = ap (λ (f : Found). f.uses) (sign_fine.found ∙ found);
         after = fine;
-      })
+      }
 
-  pub alternative_after : (next : ℕ) (x : ElementPart) → get_or text sign 0 ≡ 47 →
-      next ≡ past_run is_wsp_lem text (sign + 1) → x ≡ part_after end AlternativeAfter next → AfterRead e text end x
-  alternative_after next x byte nexts is =
+  pub alternative_after : (next : ℕ) → get_or text sign 0 ≡ 47 → next ≡ past_run is_wsp_lem text (sign + 1) →
+      AfterRead e text end AlternativeAfter next
+  alternative_after next byte nexts =
       let st : Step e FilledSpaced text sign SlashPiece 0 = rw byte at sign_step in
       let o = rw (← nexts) at (opened e text (sign + 1) (rw (add-zero (sign + 1)) at st.fine)) in
-      read_after AlternativeAfter next x is (omega arith) o.within
+      read_after AlternativeAfter next (omega arith) o.within
       (st.found
       ∙ ap (finds FilledSpaced sign SlashPiece []) (ap (found_at e Open text) (add-zero (sign + 1)) ∙ o.found))
       o.element
 
-  pub comment_after : (note : ℕ) (x : ElementPart) → get_or text sign 0 ≡ 59 →
-      note ≡ past_run in_comment text (sign + 1) → x ≡ part_after end RuleAfter (note + 2) → AfterRead e text end x
-  comment_after note x byte notes is =
+  pub comment_after : (note : ℕ) → get_or text sign 0 ≡ 59 → note ≡ past_run in_comment text (sign + 1) →
+      AfterRead e text end RuleAfter (note + 2)
+  comment_after note byte notes =
       let n = span in_comment (drop (sign + 1) text) in
       let st : Step e FilledSpaced text sign CommentPiece n = rw byte at sign_step in
       let fine : FineAt e Noted text note = rw notes st.fine in
@@ -134,23 +124,22 @@ module _ (e : Edition) (text : List ℕ) (end sign : ℕ) (signs : sign ≡ past
       let first = begun e (get_or text note 0) (drop (note + 1) text) in
       let cr = noted e text note first (step e Noted text note l fine).allowed in
       let ended = line_end_lem e Noted text note refl l cr fine in
-      read_after RuleAfter (note + 2) x is (omega arith) ended.0
+      read_after RuleAfter (note + 2) (omega arith) ended.0
       (st.found ∙ ap (found_at e Noted text) (sym notes) ∙ ended.1.found) ended.1.fine
 
-  pub rule_after : (x : ElementPart) → get_or text sign 0 ≡ 13 → x ≡ part_after end RuleAfter (sign + 2) →
-      AfterRead e text end x
-  rule_after x byte is =
+  pub rule_after : get_or text sign 0 ≡ 13 → AfterRead e text end RuleAfter (sign + 2)
+  rule_after byte =
       let ended = line_end_lem e FilledSpaced text sign refl sign_stands byte sign_fine.fine in
-      read_after RuleAfter (sign + 2) x is (omega arith) ended.0 ended.1.found ended.1.fine
+      read_after RuleAfter (sign + 2) (omega arith) ended.0 ended.1.found ended.1.fine
 
-  pub element_after : (x : ElementPart) → (get_or text sign 0 ≡ 47 → ⊥) → (get_or text sign 0 ≡ 59 → ⊥) →
-      (get_or text sign 0 ≡ 13 → ⊥) → x ≡ part_after end ElementAfter sign → AfterRead e text end x
-  element_after x n47 n59 n13 is =
+  pub element_after : (get_or text sign 0 ≡ 47 → ⊥) → (get_or text sign 0 ≡ 59 → ⊥) → (get_or text sign 0 ≡ 13 → ⊥) →
+      AfterRead e text end ElementAfter sign
+  element_after n47 n59 n13 =
       let b = get_or text sign 0 in
       let s = drop (sign + 1) text in
       let same = element_alike e b s (begun_at e text sign) (begun e b s) n47 n59 n13 sign_step.allowed in
       let o = alike e FilledSpaced Open text sign sign_stands refl same sign_fine.fine in
-      read_after ElementAfter sign x is (omega arith) (le_of_lt sign_stands) o.found
+      read_after ElementAfter sign (omega arith) (le_of_lt sign_stands) o.found
       (record { inside = sign_stands; fine = o.fine; no_blank = rw signs (behind_run is_wsp_lem text end) })
 
 -- the bytes of a literal, if a piece is one
@@ -216,15 +205,15 @@ module _ (e : Edition) (text : List ℕ) (at : ℕ) (h : ElementBegins e text at
       element_step e text at (begun e b s) (when_literal (lexed_piece e b s))
       (rw (here text at h.inside) at h.no_blank) (step e Open text at h.inside h.fine)
 
-  read : (x : ElementPart) → AfterRead e text (at + 1 + (begun_at e text at).more) x →
+  read : (a : After) (next : ℕ) → AfterRead e text (at + 1 + (begun_at e text at).more) a next →
       ElementRead e text at
       (record {
         literal = not (is_alpha_lem (get_or text at 0));
         end = at + 1 + (begun_at e text at).more;
-        after = x.after;
-        next = x.next;
+        after = a;
+        next = next;
       })
-  read x r =
+  read a next r =
       let n = (begun_at e text at).more in
       let literal = not (is_alpha_lem (get_or text at 0)) in
       let part = part_begins text at n h.inside in
@@ -246,8 +235,7 @@ module _ (e : Edition) (text : List ℕ) (at : ℕ) (h : ElementBegins e text at
     pub element_ends : FineAt e Filled text (at + 1 + q.more)
     element_ends = rw is stepped.fine
 
-    pub element_read : (alpha : Bool) (x : ElementPart) → alpha ≡ is_alpha_lem (get_or text at 0) →
-        AfterRead e text (at + 1 + q.more) x →
-        ElementRead e text at
-        (record { literal = not alpha; end = at + 1 + q.more; after = x.after; next = x.next })
-    element_read alpha x first r = rw (first, is) (read x (rw is at r))
+    pub element_read : (alpha : Bool) (a : After) (next : ℕ) → alpha ≡ is_alpha_lem (get_or text at 0) →
+        AfterRead e text (at + 1 + q.more) a next →
+        ElementRead e text at (record { literal = not alpha; end = at + 1 + q.more; after = a; next = next })
+    element_read alpha a next first r = rw (first, is) (read a next (rw is at r))

@@ -3,6 +3,10 @@ use Rattle.grammar.proofs.Basics.{ℕ, suc, ◌+◌, ◌-◌, ◌≤◌, ◌<◌
 use Rattle.grammar.proofs.Basics.{false, cond, cases, map, length, take, drop, get_or, arith, false≢true, true≢false}
 use Rattle.grammar.proofs.Basics.{eqb, ltb, leb, ltb-true, ltb-false, eqb-true, and_right, length-take-le, length-drop}
 use Rattle.grammar.proofs.Basics.{length-append, take_at, ap₂, true_and_false, eq-eqb}
+use Rattle.std.proofs.Common.{Option, None, Some, MatchOption}
+use Rattle.std.specs.Prelude.{⊤}
+use Rattle.std.specs.Bool.{then_some}
+use Rattle.std.proofs.lemmas.Option.{MatchOption-at_some}
 use lib.Seq.{take-take}
 use Rattle.abnf.specs.declared.Edition.{Edition}
 use Rattle.abnf.specs.declared.Character.{Character}
@@ -13,8 +17,8 @@ use Rattle.abnf.specs.Reading.{characters_of_lem}
 use Rattle.abnf.proofs.Literals.{literal_says, another_letter}
 use Rattle.abnf.proofs.Values.{hex_says, hex_fits}
 use Rattle.cursor.specs.declared.Characters.{Characters}
-use Rattle.scanner.specs.Parts.{part_of_lem}
-use Rattle.cursor.specs.Cursor.{IsLiteral, is_literal, characters_left, Ready}
+use Rattle.scanner.specs.Parts.{part_of_lem, values_after}
+use Rattle.cursor.specs.Cursor.{IsLiteral, is_literal, characters_left, FirstAt, Ready}
 use Rattle.scanner.proofs.Offsets.{part_here}
 
 -- a part has as many bytes as its offsets say, and begins with the byte at its offset
@@ -51,10 +55,10 @@ part_last text at end v c w e =
 
 -- the characters of a string between two offsets, and the digits of a value
 abbrev string_of : ℕ → ℕ → Bool → Characters
-string_of at end either = record { at = at; end = end; hex = false; either = either; more = ltb at end }
+string_of at end either = record { at = then_some (ltb at end) at; end = end; hex = false; either = either }
 
-abbrev value_of : ℕ → ℕ → Bool → Characters
-value_of at end more = record { at = at; end = end; hex = true; either = false; more = more }
+abbrev value_of : Option ℕ → ℕ → Characters
+value_of at end = record { at = at; end = end; hex = true; either = false }
 
 string_left : (text : List ℕ) (at end : ℕ) (either : Bool) →
     characters_left text (string_of at end either) ≡ map (cond either either_case exact) (part_of_lem text at end)
@@ -63,10 +67,17 @@ string_left text at end either =
     (λ t. rw t)
     (λ f. let none : end - at ≡ 0 = omega (arith, ltb-false at end f) in rw (f, none))
 
-string_ready : (text : List ℕ) (at end : ℕ) (either : Bool) → at ≤ end → end ≤ length text →
-    Ready text (string_of at end either)
-string_ready text at end either o w =
-    record { order = o; within = w; string = λ h. refl; fits = λ m h. absurd (false≢true h) }
+string_ready : (text : List ℕ) (at end : ℕ) (either : Bool) → end ≤ length text → Ready text (string_of at end either)
+string_ready text at end either w =
+    record {
+      within = w;
+      first =
+          cases (ltb at end)
+          (λ t.
+          let l = ltb-true at end t in
+          rw t (record { order = omega arith; string = λ h. l; fits = λ h. absurd (false≢true h) }))
+          (λ f. rw f tt);
+    }
 
 -- these are the characters of a literal
 abbrev LeftOf : List ℕ → List ℕ → Characters → Type 0
@@ -78,7 +89,7 @@ quoted_left : (text s : List ℕ) (at end : ℕ) (either : Bool) (v : List ℕ) 
 quoted_left text s at end either v w e says =
     let last = part_last text at end v 34 w e in (
       string_left text at (end - 1) either ∙ ap (map (cond either either_case exact)) last.1 ∙ sym says,
-      string_ready text at (end - 1) either (omega (arith, last.0)) (omega arith),
+      string_ready text at (end - 1) either (omega arith),
     )
 
 -- the forms of a literal, and its characters in each
@@ -86,7 +97,7 @@ data Form (text s : List ℕ) (at end : ℕ) : Type 0 where
   string_form : get_or text at 0 ≡ 34 → LeftOf text s (string_of (at + 1) (end - 1) true) → Form text s at end
   value_form :
       get_or text at 0 ≡ 37 → at + 1 < end → eqb (lower (get_or text (at + 1) 0)) 120 ≡ true →
-      LeftOf text s (value_of (at + 2) end true) → Form text s at end
+      LeftOf text s (value_of (Some (at + 2)) end) → Form text s at end
   prefixed_form :
       get_or text at 0 ≡ 37 → at + 1 < end → eqb (lower (get_or text (at + 1) 0)) 120 ≡ false →
       LeftOf text s (string_of (at + 3) (end - 1) (eqb (lower (get_or text (at + 1) 0)) 105)) → Form text s at end
@@ -116,10 +127,13 @@ form_of text s at end w p (num_val {x = x} {s = d} {vs = vs} h v) says =
     value_form u.first l.order (rw l.first h) (
       ap (map exact) values ∙ sym says,
       record {
-        order = omega (arith, l.order);
         within = w;
-        string = λ n. absurd (true≢false n);
-        fits = λ m n. ap fit values ∙ hex_fits v;
+        first =
+            record {
+              order = omega (arith, l.order);
+              string = λ n. absurd (true≢false n);
+              fits = λ n. ap fit values ∙ hex_fits v;
+            };
       },
     )
 form_of text s at end w p (sensitive {x = x} h (quoted_string {s = v} m)) says =
@@ -152,10 +166,10 @@ module _ (text : List ℕ) (at end : ℕ) (w : end ≤ length text) (l : IsLiter
       by_form (prefixed_form b o x r) = omega arith
 
   module _ (letter : ℕ) (letters : letter ≡ lower (get_or text (at + 1) 0)) (n : get_or text at 0 ≡ 34 → ⊥) where
-    pub value_literal : letter ≡ 120 → LeftOf text (part_of_lem text at end) (value_of (at + 2) end true)
+    pub value_literal : letter ≡ 120 → LeftOf text (part_of_lem text at end) (value_of (Some (at + 2)) end)
     value_literal h = by_form (form text (part_of_lem text at end) at end w refl l)
       where
-        by_form : Form text (part_of_lem text at end) at end → LeftOf text (part_of_lem text at end) (value_of (at + 2) end true)
+        by_form : Form text (part_of_lem text at end) at end → LeftOf text (part_of_lem text at end) (value_of (Some (at + 2)) end)
         by_form (string_form b r) = absurd (n b)
         by_form (value_form b o x r) = r
         by_form (prefixed_form b o x r) = true_and_false (eq-eqb _ 120 (sym letters ∙ h)) x
@@ -171,43 +185,43 @@ module _ (text : List ℕ) (at end : ℕ) (w : end ≤ length text) (l : IsLiter
         by_form (prefixed_form b o x r) = r
 
 -- the first of the characters of a string, and of a value
-module _ (text : List ℕ) (left : Characters) (ready : Ready text left) (more : left.more ≡ true) where
-  string_inside : left.hex ≡ false → left.at < left.end
-  string_inside h = ltb-true left.at left.end (sym (ready.string h) ∙ more)
+module _ (text : List ℕ) (left : Characters) (ready : Ready text left) (at : ℕ) (begins : left.at ≡ Some at) where
+  first_at : FirstAt text left at
+  first_at = MatchOption-at_some ⊤ (FirstAt text left) at begins ready.first
 
-  pub string_stands : left.hex ≡ false → left.at < length text
-  string_stands h = omega (arith, string_inside h, ready.within)
-
-  pub string_next : left.hex ≡ false → (c : Characters) → c ≡ string_of (left.at + 1) left.end left.either →
-      (characters_left text left
-      ≡ record { byte = get_or text left.at 0; either = left.either } ∷ characters_left text c)
+  pub string_next : left.hex ≡ false → (c : Characters) → c ≡ string_of (at + 1) left.end left.either →
+      (characters_left text left ≡ record { byte = get_or text at 0; either = left.either } ∷ characters_left text c)
       × Ready text c
   string_next h c is =
       rw is (
-        rw (more, h, part_here text left.at left.end (string_inside h) ready.within)
-            (ap₂ (λ c cs. c ∷ cs) (one left.either (get_or text left.at 0))
-            (sym (string_left text (left.at + 1) left.end left.either))),
-        string_ready text (left.at + 1) left.end left.either (omega (arith, string_inside h)) ready.within,
+        rw (begins, h, part_here text at left.end (first_at.string h) ready.within)
+            (ap₂ (λ c cs. c ∷ cs) (one left.either (get_or text at 0))
+            (sym (string_left text (at + 1) left.end left.either))),
+        string_ready text (at + 1) left.end left.either ready.within,
       )
     where
       one : (either : Bool) (b : ℕ) → cond either either_case exact b ≡ record { byte = b; either = either }
       one true b = refl
       one false b = refl
 
-  pub value_next : (value next : ℕ) (others : Bool) → left.hex ≡ true →
-      values_from 0 (part_of_lem text left.at left.end)
-      ≡ value ∷ cond others (values_from 0 (part_of_lem text next left.end)) [] →
-      next ≤ left.end →
+  pub value_next : (value : ℕ) (next : Option ℕ) → left.hex ≡ true →
+      values_from 0 (part_of_lem text at left.end) ≡ value ∷ values_after text next left.end →
+      MatchOption next ⊤ (λ n. n ≤ left.end) →
       (characters_left text left
-      ≡ record { byte = value; either = false } ∷ characters_left text (value_of next left.end others))
-      × Ready text (value_of next left.end others)
+      ≡ record { byte = value; either = false }
+      ∷ characters_left text (record { at = next; end = left.end; hex = left.hex; either = left.either }))
+      × Ready text (record { at = next; end = left.end; hex = left.hex; either = left.either })
   unfolding fit
-  value_next value next others h e l = (
-    rw (more, h, e) (cases others (λ t. rw t) (λ f. rw f)),
+  value_next value None h e l = (rw (begins, h, e), record { within = ready.within; first = tt })
+  value_next value (Some n) h e l = (
+    rw (begins, h, e),
     record {
-      order = l;
       within = ready.within;
-      string = λ n. absurd (true≢false n);
-      fits = λ t n. and_right (leb value 255) _ (rw (e, t) at (ready.fits more h));
+      first =
+          record {
+            order = l;
+            string = λ f. true_and_false h f;
+            fits = λ t. and_right (leb value 255) _ (rw e at (first_at.fits h));
+          };
     },
   )

@@ -1,6 +1,6 @@
 -- What stands at an offset of a text of the part: rules, alternatives, elements and characters one after the other.
 -- Assumes nothing.
-use Rattle.std.specs.Prelude.{ℕ, ◌≤◌, ◌<◌, ◌≡◌, Bool, false, true, cond, List, [], ◌∷◌, ◌++◌, map, ltb, length, drop}
+use Rattle.std.specs.Prelude.{ℕ, ◌≤◌, ◌<◌, ◌≡◌, Bool, false, true, cond, Option, None, Some, ⊤, MatchOption, List, [], ◌∷◌, ◌++◌, map, length, drop}
 use Rattle.abnf.specs.declared.Edition.{Edition}
 use Rattle.abnf.specs.declared.Character.{Character}
 use Rattle.abnf.specs.declared.Stage.{Stage}
@@ -94,26 +94,32 @@ pub record ElementRead (e : Edition) (text : List ℕ) (at : ℕ) (x : ElementPa
       ≡ uses_in at x.literal (part_of_lem text at x.end) ++ uses_after e x.after text x.next
   pub after : FineAfter e x.after text x.next
 
+-- the characters of a literal from an offset on, if there is one
+abbrev pub characters_from : List ℕ → Characters → Option ℕ → List Character
+characters_from text c None = []
+characters_from text c (Some at) =
+    cond c.hex (map exact (values_from 0 (part_of_lem text at c.end)))
+    (map (cond c.either either_case exact) (part_of_lem text at c.end))
+
 -- the characters of a literal that are left
 abbrev pub characters_left : List ℕ → Characters → List Character
-characters_left text c =
-    cond c.more
-    (cond c.hex (map exact (values_from 0 (part_of_lem text c.at c.end)))
-    (map (cond c.either either_case exact) (part_of_lem text c.at c.end)))
-    []
+characters_left text c = characters_from text c c.at
 
--- they stand in the text, and numbers among them are at most FF
+-- one of them begins at an offset, and numbers among them are at most FF
+pub record FirstAt (text : List ℕ) (c : Characters) (at : ℕ) : Type 0 where
+  pub order : at ≤ c.end
+  pub string : c.hex ≡ false → at < c.end
+  pub fits : c.hex ≡ true → fit (values_from 0 (part_of_lem text at c.end)) ≡ true
+
+-- they stand in the text
 pub record Ready (text : List ℕ) (c : Characters) : Type 0 where
-  pub order : c.at ≤ c.end
   pub within : c.end ≤ length text
-  pub string : c.hex ≡ false → c.more ≡ ltb c.at c.end
-  pub fits : c.more ≡ true → c.hex ≡ true → fit (values_from 0 (part_of_lem text c.at c.end)) ≡ true
+  pub first : MatchOption c.at ⊤ (FirstAt text c)
 
--- what stands after an element that ends at the offset
-pub record AfterRead (e : Edition) (text : List ℕ) (end : ℕ) (x : ElementPart) : Type 0 where
-  pub ends : x.end ≡ end
-  pub order : end ≤ x.next
-  pub within : x.next ≤ length text
-  pub says : said_at e Filled text end ≡ said_after e x.after text x.next
-  pub uses : uses_at e Filled text end ≡ uses_after e x.after text x.next
-  pub after : FineAfter e x.after text x.next
+-- what stands after an element that ends at an offset, and where
+pub record AfterRead (e : Edition) (text : List ℕ) (end : ℕ) (a : After) (next : ℕ) : Type 0 where
+  pub order : end ≤ next
+  pub within : next ≤ length text
+  pub says : said_at e Filled text end ≡ said_after e a text next
+  pub uses : uses_at e Filled text end ≡ uses_after e a text next
+  pub after : FineAfter e a text next

@@ -15,7 +15,7 @@ pub struct Head {
 }
 
 // What stands after an element: another of the same alternative, another alternative, or the end of the rule.
-#[derive(Clone, Copy)]
+#[derive(Clone, Copy, PartialEq, Eq)]
 pub enum After {
     ElementAfter,
     AlternativeAfter,
@@ -31,15 +31,14 @@ pub struct ElementPart {
     pub next: usize,
 }
 
-// The characters of a literal that are left, if there are more: the bytes between two offsets, which are the digits and
-// dots of a value or the characters themselves, of either case or as they are.
+// The characters of a literal that are left: where the first of them begins, if there is one, and where they end. The
+// bytes from there on are the digits and dots of a value, or the characters themselves, of either case or as they are.
 #[derive(Clone, Copy)]
 pub struct Characters {
-    pub at: usize,
+    pub at: Option<usize>,
     pub end: usize,
     pub hex: bool,
     pub either: bool,
-    pub more: bool,
 }
 
 // A character, and those that are left after it.

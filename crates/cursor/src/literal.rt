@@ -1,5 +1,6 @@
 // The characters of a literal, one after the other.
-ghost use Rattle.std.specs.Prelude.{◌≡◌, true, false, ltb, ◌∷◌, ◌≤◌, ◌<◌, length};
+ghost use Rattle.std.specs.Prelude.{◌≡◌, false, None, ltb, ⊤, MatchOption, ◌∷◌, ◌≤◌, ◌<◌, length};
+ghost use Rattle.std.specs.Bool.{then_some};
 ghost use Rattle.abnf.specs.Reading.{characters_of_lem};
 ghost use Rattle.scanner.specs.Parts.{part_of_lem};
 ghost use Rattle.cursor.specs.Cursor.{IsLiteral, characters_left, Ready};
@@ -18,62 +19,56 @@ pub fn characters_of(text: &[u8], at: usize, end: usize) -> Characters
     if text[at] == b'"' {
         return quoted(at + 1, end - 1, true);
     }
-    let letter = bytes::to_lower(text[at + 1]);
-    if letter == b'x' {
-        return Characters {
-            at: at + 2,
+    match bytes::to_lower(text[at + 1]) {
+        b'x' => Characters {
+            at: Some(at + 2),
             end,
             hex: true,
             either: false,
-            more: true,
-        };
+        },
+        letter => quoted(at + 3, end - 1, letter == b'i'),
     }
-    quoted(at + 3, end - 1, letter == b'i')
 }
 
 // The characters between quotes.
 fn quoted(at: usize, end: usize, either: bool) -> Characters
-    ensures characters { result ≡ record { at = at; end = end; hex = false; either = either; more = ltb at end } }
+    ensures characters { result ≡ record { at = then_some (ltb at end) at; end = end; hex = false; either = either } }
 {
     Characters {
-        at,
+        at: (at < end).then_some(at),
         end,
         hex: false,
         either,
-        more: at < end,
     }
 }
 
-// The first of the characters that are left.
-pub fn next_character(text: &[u8], left: Characters) -> Taken
+// The first of the characters that are left, if there is one.
+pub fn next_character(text: &[u8], left: Characters) -> Option<Taken>
     requires ready { Ready text.now left }
-    requires more { left.more ≡ true }
-    ensures taken { characters_left text.now left ≡ result.character ∷ characters_left text.now result.rest }
-    ensures ready { Ready text.now result.rest }
+    ensures taken { MatchOption result (left.at ≡ None) (λ taken.
+        characters_left text.now left ≡ taken.character ∷ characters_left text.now taken.rest) }
+    ensures ready { MatchOption result ⊤ (λ taken. Ready text.now taken.rest) }
 {
-    let at = left.at;
-    let end = left.end;
+    let at = left.at?;
     if left.hex {
-        let first = values::first_value(text, at, end);
-        return Taken {
+        let first = values::first_value(text, at, left.end);
+        Some(Taken {
             character: Character {
-                byte: first.value as u8,
+                byte: first.value,
                 either: false,
             },
             rest: Characters {
                 at: first.next,
-                end,
-                hex: true,
-                either: false,
-                more: first.more,
+                ..left
             },
-        };
-    }
-    Taken {
-        character: Character {
-            byte: text[at],
-            either: left.either,
-        },
-        rest: quoted(at + 1, end, left.either),
+        })
+    } else {
+        Some(Taken {
+            character: Character {
+                byte: text[at],
+                either: left.either,
+            },
+            rest: quoted(at + 1, left.end, left.either),
+        })
     }
 }

@@ -1,5 +1,5 @@
 // The rules of a text of the part, one after the other.
-ghost use Rattle.std.specs.Prelude.{◌≡◌, false, ◌≤◌, ◌<◌, length};
+ghost use Rattle.std.specs.Prelude.{◌≤◌, ◌<◌, length};
 ghost use Rattle.abnf.specs.declared.Stage.TheVariants.{LineStart, Filled};
 ghost use Rattle.cursor.specs.Cursor.{FineAt, ElementBegins, HeadRead, ElementRead, AfterRead};
 
@@ -17,57 +17,39 @@ pub fn head_at(edition: Edition, text: &[u8], at: usize) -> Head
     let end = bytes::run_end(ByteClass::Name, text, at);
     let sign = bytes::run_end(ByteClass::Wsp, text, end) + 1;
     if bytes::stands_at(b'/', text, sign) {
-        return Head {
+        Head {
             end,
             mark: Mark::Adds,
             body: bytes::run_end(ByteClass::Wsp, text, sign + 1),
-        };
-    }
-    Head {
-        end,
-        mark: Mark::Defines,
-        body: bytes::run_end(ByteClass::Wsp, text, sign),
-    }
-}
-
-// What stands after an element that ends at an offset, at another; the element itself is not looked at.
-fn rest_of(end: usize, after: After, next: usize) -> ElementPart
-    ensures part { result ≡ record { literal = false; end = end; after = after; next = next } }
-{
-    ElementPart {
-        literal: false,
-        end,
-        after,
-        next,
+        }
+    } else {
+        Head {
+            end,
+            mark: Mark::Defines,
+            body: bytes::run_end(ByteClass::Wsp, text, sign),
+        }
     }
 }
 
-// What stands after an element that ends at an offset.
-fn after_element(edition: Edition, text: &[u8], end: usize) -> ElementPart
+// What stands after an element that ends at an offset, and where.
+fn after_element(edition: Edition, text: &[u8], end: usize) -> (After, usize)
     requires inside { end ≤ length text.now }
     requires fine { FineAt edition Filled text.now end }
-    ensures read { AfterRead edition text.now end result }
+    ensures read { AfterRead edition text.now end result.0 result.1 }
 {
     let sign = bytes::run_end(ByteClass::Wsp, text, end);
-    let b = text[sign];
-    if b == b'/' {
-        return rest_of(
-            end,
+    match text[sign] {
+        b'/' => (
             After::AlternativeAfter,
             bytes::run_end(ByteClass::Wsp, text, sign + 1),
-        );
-    }
-    if b == b';' {
-        return rest_of(
-            end,
+        ),
+        b';' => (
             After::RuleAfter,
             bytes::run_end(ByteClass::Comment, text, sign + 1) + 2,
-        );
+        ),
+        b'\r' => (After::RuleAfter, sign + 2),
+        _ => (After::ElementAfter, sign),
     }
-    if b == b'\r' {
-        return rest_of(end, After::RuleAfter, sign + 2);
-    }
-    rest_of(end, After::ElementAfter, sign)
 }
 
 // The element that begins at an offset.
@@ -75,14 +57,12 @@ pub fn element_at(edition: Edition, text: &[u8], at: usize) -> ElementPart
     requires element { ElementBegins edition text.now at }
     ensures read { ElementRead edition text.now at result }
 {
-    let literal = !bytes::is_alpha(text[at]);
     let end = at + 1 + pieces::piece_at(edition, text, at).more;
-    let rest = after_element(edition, text, end);
-    let after = rest.after;
+    let (after, next) = after_element(edition, text, end);
     ElementPart {
-        literal,
+        literal: !bytes::is_alpha(text[at]),
         end,
         after,
-        next: rest.next,
+        next,
     }
 }

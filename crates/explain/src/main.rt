@@ -3,7 +3,7 @@
 // records, and a line for each: the transition and why it is there; or the line 'refused N at P'.
 #![tactic(auto)]
 
-ghost use Rattle.std.specs.Prelude.{◌≡◌, ◌≤◌, length};
+ghost use Rattle.std.specs.Prelude.{◌≤◌, length, IfSome};
 
 use std::env::Env;
 
@@ -19,87 +19,36 @@ const MOST_WORDS: usize = 4096;
 // The most bytes that the output of an explanation has.
 const OUTPUT_BYTES: usize = 2424874;
 
-// A word of the command line as a symbol: whether it is a number from 0 to 255, and which.
-#[derive(Clone, Copy)]
-struct Word {
-    ok: bool,
-    symbol: u8,
-}
-
-// A byte as a number.
-fn value(byte: u8) -> usize
-    ensures value { result ≡ byte }
-{
-    byte as usize
-}
-
-// The number with one digit more, 256 where it is no digit or the number is past 255.
-fn with_digit(n: usize, digit: u8) -> usize
-    ensures bounded { result ≤ 256 }
-{
-    if digit < b'0' {
-        return 256;
+// The symbol that a word spells, if it is a number from 0 to 255.
+fn symbol_of(word: &[u8]) -> Option<u8> {
+    if word.is_empty() {
+        return None;
     }
-    if b'9' < digit {
-        return 256;
+    let mut n: u8 = 0;
+    for digit in word {
+        if !digit.is_ascii_digit() {
+            return None;
+        }
+        n = n.checked_mul(10)?.checked_add(*digit - b'0')?;
     }
-    if 255 < n {
-        return 256;
-    }
-    let m = 10 * n + value(digit - b'0');
-    if 255 < m {
-        return 256;
-    }
-    m
-}
-
-// The symbol that a word spells.
-fn symbol_of(word: &[u8]) -> Word {
-    let mut n = 0;
-    let mut i = 0;
-    while i < word.len() {
-        n = with_digit(n, word[i]);
-        i += 1;
-    }
-    if word.len() == 0 {
-        return Word {
-            ok: false,
-            symbol: 0,
-        };
-    }
-    if n < 256 {
-        return Word {
-            ok: true,
-            symbol: n as u8,
-        };
-    }
-    Word {
-        ok: false,
-        symbol: 0,
-    }
+    Some(n)
 }
 
 // Word i of the command line as a symbol; a word of more than 16 bytes is none.
-fn word_at(rt: &impl Env, i: usize) -> Word {
+fn word_at(rt: &impl Env, i: usize) -> Option<u8> {
     let mut word = [0u8; 16];
     let n = rt.arg(i, &mut word).unwrap_or(0);
     symbol_of(console::part(&word, n))
 }
 
-// Fills the form with the words of the command line; false where one is no symbol.
-fn read_form(rt: &impl Env, form: &mut [u8], count: usize) -> bool
+// Fills the form with the words of the command line, unless one is no symbol.
+fn read_form(rt: &impl Env, form: &mut [u8], count: usize) -> Option<()>
     requires within { count ≤ length form.old }
 {
-    let mut i = 0;
-    while i < count {
-        let word = word_at(rt, i + 1);
-        if !word.ok {
-            return false;
-        }
-        form[i] = word.symbol;
-        i += 1;
+    for i in 0..count {
+        form[i] = word_at(rt, i + 1)?;
     }
-    true
+    Some(())
 }
 
 // Prints the explanation of a form, by way of a buffer for the output.
@@ -108,11 +57,13 @@ fn print_explanation(rt: &HostRuntime, job: &[u8], form: &[u8], out: &mut [u8]) 
     let mut reasons = [0u32; job::REASON_NUMBERS];
     let mut listing = [0u8; LISTING_BYTES];
     let explained = explaining::explain(job, &mut table, &mut reasons, form, &mut listing);
+    let (number, place) = job::numbers_of(explained.err());
+    let records = explained.unwrap_or(None);
     let written = printing::operations::explain_output(
-        explained.number,
-        explained.place,
-        explained.accepted,
-        explained.records,
+        number,
+        place,
+        records.is_some(),
+        records.unwrap_or(0),
         &listing,
         out,
     );
@@ -125,21 +76,19 @@ fn explain(rt: &HostRuntime, job: &[u8], form: &[u8]) {
     print_explanation(rt, job, form, &mut out);
 }
 
-// How many symbols the words of the command line spell, which are put into the form: none for one empty word. 4,097
-// where one of them is no symbol.
-fn read_words(rt: &impl Env, form: &mut [u8], count: usize) -> usize
+// How many symbols the words of the command line spell, which are put into the form: none for one empty word; unless one
+// of them is no symbol.
+fn read_words(rt: &impl Env, form: &mut [u8], count: usize) -> Option<usize>
     requires within { count ≤ length form.old }
 {
     if count == 1 {
         let mut word = [0u8; 16];
         if rt.arg(1, &mut word).unwrap_or(0) == 0 {
-            return 0;
+            return Some(0);
         }
     }
-    if read_form(rt, form, count) {
-        return count;
-    }
-    MOST_WORDS + 1
+    read_form(rt, form, count)?;
+    Some(count)
 }
 
 // Reads the job, and explains the form, or the start symbol where no words are given.
@@ -161,16 +110,16 @@ fn explain_job(rt: &HostRuntime, job: &[u8], form: &[u8], symbols: usize, words:
     explain(rt, job, console::part(form, symbols));
 }
 
-// How many words the command line has, one more than are read where it has more.
-fn word_count(rt: &impl Env) -> usize
-    ensures within { result ≤ 4097 }
+// How many words the command line has, unless it has more than are read.
+fn word_count(rt: &impl Env) -> Option<usize>
+    ensures within { IfSome result (λ n. n ≤ 4096) }
 {
     for i in 0..MOST_WORDS + 1 {
         if !console::has_word(rt, i + 1) {
-            return i;
+            return Some(i);
         }
     }
-    MOST_WORDS + 1
+    None
 }
 
 fn main(rt: HostRuntime) {
@@ -178,21 +127,19 @@ fn main(rt: HostRuntime) {
     if !console::has_word(&rt, 0) {
         return;
     }
-    let count = word_count(&rt);
-    if MOST_WORDS < count {
+    let Some(count) = word_count(&rt) else {
         console::tell(
             &rt,
             b"ropeclover-explain: too many symbols; a form has at most 64\n",
         );
         return;
-    }
-    let symbols = read_words(&rt, &mut form, count);
-    if MOST_WORDS < symbols {
+    };
+    let Some(symbols) = read_words(&rt, &mut form, count) else {
         console::tell(
             &rt,
             b"usage: ropeclover-explain [SYMBOL ..] < JOB\neach SYMBOL is a number from 0 to 63; without one the start symbol is explained, and '' is the empty form\n",
         );
         return;
-    }
+    };
     explain_input(&rt, &form, symbols, count);
 }

@@ -2,14 +2,14 @@
 -- that state says. Assumes nothing.
 use Rattle.grammar.proofs.Basics.{◌≡◌, refl, ◌∙◌, sym, true, false, Bool, List, ℕ, ◌<◌, arith, get_or, eq-eqb}
 use Rattle.grammar.proofs.Basics.{ne_eqb}
-use Rattle.job.specs.declared.Checked.{Checked}
+use Rattle.job.specs.Records.{Checked}
 use Rattle.job.specs.Accepted.{Accepted}
 use Rattle.job.specs.Format.{byte_i, records_of}
 use Rattle.job.specs.Job.{field_of, job_of}
 use Rattle.job.proofs.AcceptedFacts.{in_range, initial_below, job_initial}
 use Rattle.machine.specs.Table.{done_in, done_at_lem}
 use Rattle.bit_machine.specs.BitTable.{bit_of, bit_statuses}
-use Rattle.forms.specs.declared.Asked.{Asked}
+use Rattle.forms.specs.Answers.{Asked}
 use Rattle.forms.specs.Acceptance.{SymbolsFit}
 use Rattle.forms.specs.Operations.{ask_answer, accepts_by, accepts_on}
 use Rattle.forms.specs.Inside.AcceptanceParts.{FinishWords, Filled, AgreeOn}

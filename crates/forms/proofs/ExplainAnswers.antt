@@ -1,13 +1,10 @@
 -- What explain answers on a finished table: the bit of the whole form at the initial state says whether there is a
 -- route to list. Assumes nothing.
-use Rattle.grammar.proofs.Basics.{◌≡◌, refl, ◌∙◌, sym, ap, true, false, List, ℕ, ◌<◌, ◌/◌, arith, length, get_or, take}
-use Rattle.grammar.proofs.Basics.{drop-length, eq-eqb, ne_eqb}
-use Prim.Native.Nat.{◌^◌}
-use lib.Bits.{bit_and}
+use Rattle.grammar.proofs.Basics.{◌≡◌, refl, ◌∙◌, sym, ap, true, false, List, ℕ, ◌<◌, arith, length, get_or, take}
+use Rattle.grammar.proofs.Basics.{drop-length}
 use Rattle.job.specs.Job.{job_of}
 use Rattle.machine.specs.Table.{done_in, done_at_lem, lent_of}
 use Rattle.bit_machine.specs.BitTable.{bit_of, bit_statuses}
-use Rattle.bit_machine.proofs.BitBytes.{bit_test}
 use Rattle.forms.specs.Acceptance.{SymbolsFit, can_finish, route}
 use Rattle.forms.specs.Operations.{accepts_on, ExplainOutcome, explain_leaves, listed_for, explain_listed}
 use Rattle.forms.specs.Operations.{explain_finished_lem}
@@ -23,12 +20,12 @@ module _ {job bits form finish : List ℕ} {q : ℕ} (f : Filled job bits form f
   unfolding can_finish
   ends_agree s l = rw (drop-length form) at (f.words (length form) s (omega arith) l)
 
-  pub may_fill : bit_and (get_or finish 0 0 / 2 ^ q) 1 ≡ 1 →
+  pub may_fill : bit_of (get_or finish 0 0) q ≡ true →
       FinishWords (final_of form finish) bits form finish × (bit_of (get_or finish 0 0) q ≡ true)
   may_fill some = (
     λ i s l below. f.words i s l below
         ∙ sym (finish_agree _ _ ends_agree (done_in (bit_statuses bits)) _ _ (λ j u v h m n. refl) s below),
-    sym (bit_test (get_or finish 0 0) q) ∙ eq-eqb _ 1 some,
+    some,
   )
 
   -- a table that says what the bits say
@@ -37,14 +34,14 @@ module _ {job bits form finish : List ℕ} {q : ℕ} (f : Filled job bits form f
     accepts_bit = initial_bit f ∙ accepts_alike bits t form f.ok same fit
 
     -- no route
-    pub not_accepted_lem : (rs out : List ℕ) → (bit_and (get_or finish 0 0 / 2 ^ q) 1 ≡ 1 → ⊥) →
+    pub not_accepted_lem : (rs out : List ℕ) → bit_of (get_or finish 0 0) q ≡ false →
         explain_leaves (record { number = 0; place = 0; accepted = false; records = 0 }) (lent_of t rs) out
         ≡ explain_finished_lem (job_of job) (lent_of t rs) form out
     unfolding explain_finished_lem
-    not_accepted_lem rs out none = rw (sym accepts_bit ∙ sym (bit_test (get_or finish 0 0) q) ∙ ne_eqb _ 1 none)
+    not_accepted_lem rs out none = rw (sym accepts_bit ∙ none)
 
     -- a route
-    module _ (some : bit_and (get_or finish 0 0 / 2 ^ q) 1 ≡ 1) where
+    module _ (some : bit_of (get_or finish 0 0) q ≡ true) where
       is_accepted_lem' : accepts_on (job_of job) t form ≡ true
       is_accepted_lem' = sym accepts_bit ∙ (may_fill some).1
 

@@ -1,6 +1,6 @@
 -- What the checks of explain make sure of where they refuse nothing. By the checks in turn. Assumes nothing.
 use Rattle.grammar.proofs.Basics.{◌≡◌, refl, ◌∙◌, sym, ap, List, ℕ}
-use Rattle.job.specs.declared.Checked.{Checked}
+use Rattle.job.specs.Records.{Checked}
 use Rattle.job.proofs.CallChecks.{both_pass}
 use Rattle.machine.specs.Table.{Lent}
 use Rattle.machine.proofs.MachineChecks.{Passed, machine_passed}

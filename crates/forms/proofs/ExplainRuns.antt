@@ -1,7 +1,7 @@
 -- Explain from start to end: a refusal leaves all as it was; else the job is started and run, and the form is
 -- explained on the table that this leaves. Assumes nothing.
 use Rattle.grammar.proofs.Basics.{◌≡◌, ◌∙◌, sym, ap, true, false, List, ℕ, ◌≤◌, length, eq-eqb, ne_eqb}
-use Rattle.job.specs.declared.Checked.{Checked}
+use Rattle.job.specs.Records.{Checked}
 use Rattle.job.specs.Accepted.{Accepted}
 use Rattle.job.specs.Job.{job_of}
 use Rattle.machine.specs.Table.{Lent, table_size, reasons_size}

@@ -1,11 +1,11 @@
 -- What explain does on a finished table: a pass that only counts, the marks taken back, and a pass that writes. The
 -- first pass leaves the listing, and taking its marks back leaves the table, so the second pass starts where the
 -- first did. Assumes nothing.
-use Rattle.grammar.proofs.Basics.{◌≡◌, refl, ◌∙◌, ap, true, false, Bool, List, map, ℕ, ◌<◌, ◌≤◌, ◌-◌, ◌*◌, arith}
+use Rattle.grammar.proofs.Basics.{◌≡◌, refl, ◌∙◌, ap, true, false, Bool, List, map, ℕ, ◌<◌, ◌≤◌, ◌*◌, arith}
 use Rattle.grammar.proofs.Basics.{length, take, length-take, lt-ltb, le-ltb}
 use Rattle.job.specs.Format.{records_of}
 use Rattle.job.specs.Job.{sort_key_lem, sorted_rules_lem, job_of}
-use Rattle.job.proofs.Keys.{rules_lent}
+use Rattle.job.proofs.Keys.{job_rules}
 use Rattle.machine.specs.Table.{Lent, lent_of, table_size, done_at_lem, each}
 use Rattle.forms.specs.Acceptance.{route}
 use Rattle.forms.specs.Listing.{Listed, unmarked}
@@ -44,16 +44,16 @@ pub record ReadyToList (job t rs form places keys : List ℕ) : Type 0 where
   pub rules : rules_of_keys keys ≡ (job_of job).rules
 
 -- the sorted keys of an accepted job hold its rules
-pub ready : {job t rs form places : List ℕ} (keys : List ℕ) {n : ℕ} →
+pub ready : {job t rs form places keys : List ℕ} →
     (Explainable job (lent_of t rs) × FormFits form) × OnRoute job t form places →
-    (n ≡ length (sorted_rules_lem (records_of job))) × (take n keys ≡ map sort_key_lem (sorted_rules_lem (records_of job))) →
-    ReadyToList job t rs form places (take (n - 0) keys)
-ready keys {n} (both, on) (count, sorted) =
+    keys ≡ map sort_key_lem (sorted_rules_lem (records_of job)) →
+    ReadyToList job t rs form places keys
+ready (both, on) sorted =
     record {
       able = both.0;
       form_fits = both.1;
       on = on;
-      rules = rules_lent both.0.job_accepted keys n count sorted;
+      rules = job_rules both.0.job_accepted sorted;
     }
 
 module _ {job t rs form places keys : List ℕ} (r : ReadyToList job t rs form places keys) where

@@ -9,7 +9,8 @@ use Rattle.grammar.specs.Rule.{Rule, empty, unit, pair}
 use Rattle.job.specs.Inside.Keys.{rule_of_key}
 use Rattle.job.specs.Format.{byte_u, byte_p}
 use Rattle.machine.specs.Table.{table_size, table_place, from_state, symbol_at, to_state, given_reason}
-use Rattle.forms.specs.declared.ReasonBytes.{ReasonBytes}
+use Rattle.forms.specs.declared.Reason.{Reason}
+use Rattle.forms.specs.declared.Reason.TheVariants.{Given, Empty, Unit, Pair}
 use Rattle.forms.specs.Listing.{reason_at_lem, rule_premises, rule_bytes_lem, reason_bytes_lem, premises, listing_record, is_listed}
 use Rattle.forms.specs.Listing.{byte_g}
 use Rattle.forms.specs.Grounded.{DonePlace, ReasonFits}
@@ -66,24 +67,24 @@ record_length ρs reasons p =
 
 -- a record stored byte by byte
 pub record_stored :
-    {ρs : List Rule} {reasons : List ℕ} {p : ℕ} → HasReason ρs reasons p → (why : ReasonBytes) →
-    five_bytes why ≡ reason_bytes_lem ρs reasons p → (out : List ℕ) (at : ℕ) →
+    {ρs : List Rule} {reasons : List ℕ} {p : ℕ} → HasReason ρs reasons p → (kind second third middle : ℕ) →
+    kind ∷ second ∷ third ∷ middle ∷ 0 ∷ [] ≡ reason_bytes_lem ρs reasons p → (out : List ℕ) (at : ℕ) →
     set
     (set
     (set
     (set
-    (set (set (set (set out at (from_state p)) (at + 1) (symbol_at p)) (at + 2) (to_state p)) (at + 3) why.kind)
+    (set (set (set (set out at (from_state p)) (at + 1) (symbol_at p)) (at + 2) (to_state p)) (at + 3) kind)
     (at + 4)
-    why.second)
+    second)
     (at + 5)
-    why.third)
+    third)
     (at + 6)
-    why.middle)
+    middle)
     (at + 7)
     0
     ≡ sets out at (listing_record ρs reasons p)
 unfolding listing_record
-record_stored has why read out at = rw (← read) (simp towards_suc)
+record_stored has kind second third middle read out at = rw (← read) (simp towards_suc)
 
 -- the premises that five bytes tell
 abbrev told : ℕ → ℕ → List ℕ → List ℕ
@@ -102,46 +103,48 @@ premises_told : (ρs : List Rule) (reasons : List ℕ) (p : ℕ) →
 unfolding premises reason_bytes_lem
 premises_told ρs reasons p = cases (eqb (reason_at_lem reasons p) given_reason) (λ e. rw e) (λ e. rw (e, rule_tells))
 
--- what the bytes read say of the premises of a done place
-module _ {ρs : List Rule} {reasons t : List ℕ} {p : ℕ} (can : CanList ρs reasons t) (d : DonePlace t p)
-    (why : ReasonBytes) (read : five_bytes why ≡ reason_bytes_lem ρs reasons p) where
-  tells : premises ρs reasons p ≡ told (from_state p) (to_state p) (five_bytes why)
-  tells = premises_told ρs reasons p ∙ ap (told (from_state p) (to_state p)) (sym read)
+-- a premise of a done place lies in the table
+premise_within : {ρs : List Rule} {reasons t : List ℕ} {p : ℕ} → CanList ρs reasons t → DonePlace t p → (x : ℕ) →
+    List·Memᴰ x (premises ρs reasons p) → x < table_size
+premise_within {p = p} can d x m = (can.grounded.premise_done p x d m).within
 
-  inside : (x : ℕ) → List·Memᴰ x (premises ρs reasons p) → x < length t
-  inside x m = omega (arith, (can.grounded.premise_done p x d m).within, can.long)
+-- what the reason read says of the premises of a done place
+module _ {ρs : List Rule} {reasons t : List ℕ} {p : ℕ} (can : CanList ρs reasons t) (d : DonePlace t p)
+    {why : Reason} (read : five_bytes why ≡ reason_bytes_lem ρs reasons p) where
+  tells : {is : Reason} → why ≡ is → premises ρs reasons p ≡ told (from_state p) (to_state p) (five_bytes is)
+  tells e = premises_told ρs reasons p ∙ ap (told (from_state p) (to_state p)) (sym read ∙ ap five_bytes e)
 
   -- the first premise that is not listed, and where they lie
-  pub next_of_unit : why.kind ≡ byte_u →
-      first_unlisted_lem t
-      (table_place (from_state p) why.second (to_state p) ∷ table_place (from_state p) why.second (to_state p) ∷ [])
+  pub next_of_unit : {X : ℕ} → why ≡ Unit X →
+      first_unlisted_lem t (table_place (from_state p) X (to_state p) ∷ table_place (from_state p) X (to_state p) ∷ [])
       ≡ first_unlisted_lem t (premises ρs reasons p)
   unfolding first_unlisted_lem
-  next_of_unit k =
-      let a : ℕ = table_place (from_state p) why.second (to_state p) in rw (tells, k) (twice (is_listed t a) a table_size)
+  next_of_unit {X} k =
+      let a : ℕ = table_place (from_state p) X (to_state p) in rw (tells k) (twice (is_listed t a) a table_size)
     where
       twice : (b : Bool) (a n : ℕ) → cond b (cond b n a) a ≡ cond b n a
       twice true a n = refl
       twice false a n = refl
 
-  pub unit_within : why.kind ≡ byte_u → table_place (from_state p) why.second (to_state p) < length t
-  unit_within k = inside _ (rw (tells, k) (List·Memᴰ·head refl))
+  pub unit_within : {X : ℕ} → why ≡ Unit X → table_place (from_state p) X (to_state p) < table_size
+  unit_within k = premise_within can d _ (rw (tells k) (List·Memᴰ·head refl))
 
-  pub next_of_pair : why.kind ≡ byte_p →
-      first_unlisted_lem t
-      (table_place (from_state p) why.second why.middle ∷ table_place why.middle why.third (to_state p) ∷ [])
+  pub next_of_pair : {B C m : ℕ} → why ≡ Pair B C m →
+      first_unlisted_lem t (table_place (from_state p) B m ∷ table_place m C (to_state p) ∷ [])
       ≡ first_unlisted_lem t (premises ρs reasons p)
-  next_of_pair k = rw (tells, k)
+  next_of_pair k = rw (tells k)
 
-  pub pair_within : why.kind ≡ byte_p →
-      (table_place (from_state p) why.second why.middle < length t)
-      × (table_place why.middle why.third (to_state p) < length t)
+  pub pair_within : {B C m : ℕ} → why ≡ Pair B C m →
+      (table_place (from_state p) B m < table_size) × (table_place m C (to_state p) < table_size)
   pair_within k = (
-    inside _ (rw (tells, k) (List·Memᴰ·head refl)),
-    inside _ (rw (tells, k) (List·Memᴰ·tail (List·Memᴰ·head refl))),
+    premise_within can d _ (rw (tells k) (List·Memᴰ·head refl)),
+    premise_within can d _ (rw (tells k) (List·Memᴰ·tail (List·Memᴰ·head refl))),
   )
 
-  pub next_of_none :
-      (why.kind ≡ byte_u → ⊥) → (why.kind ≡ byte_p → ⊥) → table_size ≡ first_unlisted_lem t (premises ρs reasons p)
+  pub none_of_given : why ≡ Given → table_size ≡ first_unlisted_lem t (premises ρs reasons p)
   unfolding first_unlisted_lem
-  next_of_none u q = rw (tells, ne_eqb why.kind byte_u u, ne_eqb why.kind byte_p q)
+  none_of_given k = rw (tells k)
+
+  pub none_of_empty : why ≡ Empty → table_size ≡ first_unlisted_lem t (premises ρs reasons p)
+  unfolding first_unlisted_lem
+  none_of_empty k = rw (tells k)

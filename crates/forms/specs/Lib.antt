@@ -1,3 +1,4 @@
+pub mod Answers
 pub mod Acceptance
 pub mod Listing
 pub mod Grounded

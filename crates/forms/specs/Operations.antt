@@ -1,7 +1,7 @@
 -- The whole outcome of ask and explain, for every input. Assumes nothing.
 use Rattle.std.specs.Prelude.{ℕ, suc, ◌*◌, Bool, true, false, cond, List, [], ◌∷◌, ◌++◌, eqb, ltb, length, drop}
 use Rattle.grammar.specs.Rule.{Rule}
-use Rattle.job.specs.declared.Checked.{Checked}
+use Rattle.job.specs.Records.{Checked}
 use Rattle.job.specs.Check.{Checks, job_check, short_table, refused, accepted, or_else}
 use Rattle.job.specs.Job.{Job, job_of}
 use Rattle.machine.specs.Table.{Lent, Statuses, done_in, statuses, done_at_lem}
@@ -10,8 +10,8 @@ use Rattle.machine.specs.Advance.{steps}
 use Rattle.machine.specs.Operations.{machine_check_by}
 use Rattle.bit_machine.specs.BitTable.{bit_statuses}
 use Rattle.bit_machine.specs.Operations.{short_bits}
-use Rattle.forms.specs.declared.Asked.{Asked}
-use Rattle.forms.specs.declared.Explained.{Explained}
+use Rattle.forms.specs.Answers.{Asked}
+use Rattle.forms.specs.Answers.{Explained}
 use Rattle.forms.specs.Acceptance.{is_accepted_lem, route}
 use Rattle.forms.specs.Listing.{Listed, list_all_lem, records_at}
 

@@ -29,34 +29,19 @@ pub fn classify(symbol: u8) -> SymbolClass
 pub fn is_variable(symbol: u8) -> bool
     ensures variable { result ≡ ltb symbol 32 }
 {
-    let class = classify(symbol);
-    match class {
-        SymbolClass::Variable => true,
-        SymbolClass::Terminal => false,
-        SymbolClass::Neither => false,
-    }
+    matches!(classify(symbol), SymbolClass::Variable)
 }
 
 // Whether a byte is a terminal.
 pub fn is_terminal(symbol: u8) -> bool
     ensures terminal { result ≡ is_terminal_lem symbol }
 {
-    let class = classify(symbol);
-    match class {
-        SymbolClass::Variable => false,
-        SymbolClass::Terminal => true,
-        SymbolClass::Neither => false,
-    }
+    matches!(classify(symbol), SymbolClass::Terminal)
 }
 
 // Whether a byte is a symbol: a variable or a terminal.
 pub fn is_symbol(symbol: u8) -> bool
     ensures symbol { result ≡ ltb symbol 64 }
 {
-    let class = classify(symbol);
-    match class {
-        SymbolClass::Variable => true,
-        SymbolClass::Terminal => true,
-        SymbolClass::Neither => false,
-    }
+    !matches!(classify(symbol), SymbolClass::Neither)
 }

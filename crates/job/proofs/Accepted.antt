@@ -10,7 +10,7 @@ use native.Mathlib.Nat.{pos_of_ne-zero, le_antisymm, le_of_eq}
 use Rattle.grammar.specs.Counting.{one_if_lem, NoRepeat}
 use Rattle.job.specs.declared.JobRecord.{JobRecord}
 use Rattle.job.specs.declared.Limits.{Limits}
-use Rattle.job.specs.declared.Checked.{Checked}
+use Rattle.job.specs.Records.{Checked}
 use Rattle.job.specs.Format.{ClassTable, field_classes, records_of, row_of, is_rule_lem, has, byte_i, byte_s}
 use Rattle.job.specs.Records.{refused, accepted, first_fault}
 use Rattle.job.specs.Check.{full_limits, count_kind, count_rules, fault, job_format, missing, check_of, job_check}

@@ -1,7 +1,7 @@
 -- The checks of a call: where they pass, each lent buffer is long enough and the job is accepted. By the tests in turn.
 -- Assumes nothing.
 use Rattle.grammar.proofs.Basics.{◌≡◌, Bool, List, ℕ, ◌≤◌, arith, ltb, ltb-false, cases}
-use Rattle.job.specs.declared.Checked.{Checked}
+use Rattle.job.specs.Records.{Checked}
 use Rattle.job.specs.Check.{short_buffer_lem, or_else, job_check}
 use Rattle.job.specs.Accepted.{Accepted}
 use Rattle.job.proofs.Accepted.{number_accepted}

@@ -1,5 +1,6 @@
 -- Clearing the front of a list is writing zeros: what stands in it then. Assumes nothing.
-use Rattle.grammar.proofs.Basics.{◌≡◌, refl, List, ◌∷◌, [], ℕ, ◌<◌, ◌≤◌, suc, zero, arith, length, get_or, take, set}
+use Rattle.grammar.proofs.Basics.{◌≡◌, refl, ap, List, ◌∷◌, [], ◌++◌, ℕ, ◌<◌, ◌≤◌, suc, zero, arith, length, get_or, take, set}
+use Rattle.grammar.proofs.Basics.{replicate}
 use Rattle.grammar.proofs.Basics.{drop}
 use Rattle.job.specs.Written.{written, cleared}
 use Rattle.job.proofs.Filling.{written_long, written_next, written_past, written_rest, written_alike}
@@ -38,3 +39,14 @@ cleared_past n xs = written_rest (λ i. 0) 0 n xs
 pub cleared_alike : (n : ℕ) (xs ys : List ℕ) → length xs ≡ length ys → take n (cleared n xs) ≡ take n (cleared n ys)
 unfolding cleared
 cleared_alike n xs ys e = written_alike (λ i. 0) 0 n xs ys e
+
+-- cleared is filled with zeros
+filled_from : (i n : ℕ) (xs : List ℕ) → replicate (length (take n xs)) 0 ++ drop n xs ≡ written (λ j. 0) i n xs
+unfolding written
+filled_from i zero xs = refl
+filled_from i (suc n) [] = refl
+filled_from i (suc n) (x ∷ xs) = ap (λ ys. 0 ∷ ys) (filled_from (suc i) n xs)
+
+pub filled_front : (n : ℕ) (xs : List ℕ) → replicate (length (take n xs)) 0 ++ drop n xs ≡ cleared n xs
+unfolding cleared
+filled_front n xs = filled_from 0 n xs

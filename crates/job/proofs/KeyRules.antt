@@ -1,12 +1,15 @@
 -- The rule of a sort key by its kind byte, the same rule read by value, and the rules of a list of keys. Assumes
 -- nothing.
-use Rattle.grammar.proofs.Basics.{◌≡◌, refl, List, ◌∷◌, [], ◌++◌, List·Memᴰ·head, List·Memᴰ·tail, List·Memᴰ·not-nil}
+use Rattle.grammar.proofs.Basics.{◌≡◌, refl, ◌∙◌, sym, ap, List, ◌∷◌, [], ◌++◌, List·Memᴰ·head, List·Memᴰ·tail, List·Memᴰ·not-nil}
 use Rattle.grammar.proofs.Basics.{map, ℕ, ◌<◌, ◌+◌, suc, add-one, arith, eqb, length, get_or, take, take-suc, cases}
 use mathlib.Core.List.{map-append}
 use Rattle.grammar.specs.Rule.{Rule, head, empty, unit, pair}
-use Rattle.job.specs.declared.RuleFields as declared
+use Rattle.job.specs.declared.Body.{Body}
+use Rattle.job.specs.declared.Body.TheVariants.{Empty, Unit, Pair}
+use Rattle.job.specs.declared.Rule as declared
 use Rattle.job.specs.Format.{byte_e, byte_u}
-use Rattle.job.specs.Inside.Keys.{key_kind, unpacked, rule_of_key, KeyFits, rules_of_keys, rule_from, RuleFits}
+use Rattle.job.specs.Inside.Keys.{key_kind, key_body, unpacked, rule_of_key, KeyFits, rules_of_keys, rule_with, rule_from}
+use Rattle.job.specs.Inside.Keys.{BodyInRange, RuleFits}
 use Rattle.job.specs.Theorems.InRange.{RuleInRange, RulesInRange}
 
 -- a key that fits holds a rule in range
@@ -41,27 +44,45 @@ pub rules_more : (keys : List ℕ) (k : ℕ) → k < length keys →
     rules_of_keys (take (k + 1) keys) ≡ rules_of_keys (take k keys) ++ (rule_of_key (get_or keys k 0) ∷ [])
 rules_more keys k l = mapped_more rule_of_key keys k l
 
--- what holds of the three shapes holds of a rule read by value
-module _ (r : declared.RuleFields) where
-  by_kind : (P : Rule → Type 0) → P (empty r.head) → P (unit r.head r.second) →
-      P (pair r.head r.second r.third) → P (rule_from r)
-  unfolding rule_from
-  by_kind P e u p =
-      cases (eqb r.kind byte_e)
-      (λ k. rw k e)
-      (λ k. cases (eqb r.kind byte_u) (λ l. rw (k, l) u) (λ l. rw (k, l) p))
+-- the rule of a head and a body, read by value
+with_head : (A : ℕ) (b : Body) → head (rule_with A b) ≡ A
+with_head A Empty = refl
+with_head A (Unit X) = refl
+with_head A (Pair X Y) = refl
 
-  pub from_head : head (rule_from r) ≡ r.head
-  from_head = by_kind (λ ρ. head ρ ≡ r.head) refl refl refl
+with_in_range : (A : ℕ) (b : Body) → A < 32 → BodyInRange b → RuleInRange (rule_with A b)
+with_in_range A Empty h f = h
+with_in_range A (Unit X) h f = (h, f)
+with_in_range A (Pair X Y) h f = (h, f.0, f.1)
 
-  pub from_in_range : RuleFits r → RuleInRange (rule_from r)
-  from_in_range f = by_kind RuleInRange f.head (f.head, f.second) (f.head, f.second, f.third)
+pub from_head : (r : declared.Rule) → head (rule_from r) ≡ r.head
+from_head r = with_head r.head r.body
+
+pub from_in_range : (r : declared.Rule) → RuleFits r → RuleInRange (rule_from r)
+from_in_range r f = with_in_range r.head r.body f.head f.body
 
 -- the rule that was read from a key
-module _ {r : declared.RuleFields} (k : ℕ) (e : r ≡ unpacked k) where
+key_read : (k : ℕ) → rule_from (unpacked k) ≡ rule_of_key k
+unfolding rule_of_key
+key_read k =
+    cases (eqb (key_kind k) byte_e) (λ e. rw e)
+    (λ e. cases (eqb (key_kind k) byte_u) (λ u. rw (e, u)) (λ u. rw (e, u)))
+
+key_body_fits : (k : ℕ) → KeyFits k → BodyInRange (key_body k)
+key_body_fits k f =
+    cases (eqb (key_kind k) byte_e) (λ e. rw e tt)
+    (λ e. cases (eqb (key_kind k) byte_u) (λ u. rw (e, u) f.second) (λ u. rw (e, u) (f.second, f.third)))
+
+module _ {r : declared.Rule} (k : ℕ) (e : r ≡ unpacked k) where
   pub read_rule : rule_from r ≡ rule_of_key k
-  unfolding rule_from rule_of_key
-  read_rule = rw e
+  read_rule = rw e (key_read k)
 
   pub read_fits : KeyFits k → RuleFits r
-  read_fits f = rw e (search)
+  read_fits f = rw e record { head = f.head; body = key_body_fits k f }
+
+  -- by its body
+  pub read_body : {b : Body} → r.body ≡ b → rule_of_key k ≡ rule_with r.head b
+  read_body q = sym read_rule ∙ ap (rule_with r.head) q
+
+  pub read_body_fits : {b : Body} → r.body ≡ b → KeyFits k → BodyInRange b
+  read_body_fits q f = rw (← q) (read_fits f).body

@@ -1,10 +1,9 @@
 -- The sort keys of an accepted job's rules hold the rules: a key's four bytes are the record's, so each key decodes to
 -- the rule of its rank. Assumes nothing.
-use Rattle.grammar.proofs.Basics.{◌≡◌, refl, ◌∙◌, sym, ap, ap₂, inl, inr, ◌⊎◌, Bool, List, ◌∷◌, [], List·Memᴰ}
-use Rattle.grammar.proofs.Basics.{List·Memᴰ·head, List·Memᴰ·tail, map, ℕ, ◌<◌, ◌≤◌, ◌-◌, arith, length, get_or, take}
-use Rattle.grammar.proofs.Basics.{length-map, length-take, length-take-le, List·getD-map, get_or-take}
+use Rattle.grammar.proofs.Basics.{◌≡◌, refl, ◌∙◌, ap, ap₂, inl, inr, ◌⊎◌, Bool, List, ◌∷◌, [], List·Memᴰ}
+use Rattle.grammar.proofs.Basics.{List·Memᴰ·head, List·Memᴰ·tail, map, ℕ, ◌<◌, arith, length, get_or}
+use Rattle.grammar.proofs.Basics.{length-map, List·getD-map}
 use Rattle.grammar.proofs.NoRepeat.{member_at}
-use native.Mathlib.Nat.{sub-zero}
 use Rattle.job.specs.declared.JobRecord.{JobRecord}
 use Rattle.job.specs.Format.{records_of, no_record, byte_e, byte_u, byte_p}
 use Rattle.job.specs.Accepted.{Accepted}
@@ -58,35 +57,26 @@ module _ {needed : Bool} {job : List ℕ} (ok : Accepted needed job) where
       let (member, rule) = sorted_member (records_of job) m in
       rule_shape r (ok.fitting r member) rule
 
-  -- the first n keys are those of the rules, in the order of their ranks
-  module _ (keys : List ℕ) (n : ℕ) (count : n ≡ length (sorted_rules_lem (records_of job)))
-      (sorted : take n keys ≡ map sort_key_lem (sorted_rules_lem (records_of job))) where
-    keys_within : n ≤ 256
-    keys_within = omega (arith, rules_counted (records_of job), ok.few_rules)
+  -- keys that are those of the rules, in the order of their ranks
+  module _ {keys : List ℕ} (sorted : keys ≡ map sort_key_lem (sorted_rules_lem (records_of job))) where
+    keys_counted : length keys ≡ length (sorted_rules_lem (records_of job))
+    keys_counted = ap length sorted ∙ length-map (sorted_rules_lem (records_of job)) sort_key_lem
 
-    pub keys_long : n ≤ length keys
-    keys_long = omega (arith, length-take n keys, ap length sorted, length-map (sorted_rules_lem (records_of job)) sort_key_lem)
-
-    key_at : (k : ℕ) → k < n → get_or keys k 0 ≡ sort_key_lem (get_or (sorted_rules_lem (records_of job)) k no_record)
+    key_at : (k : ℕ) → k < length keys → get_or keys k 0 ≡ sort_key_lem (get_or (sorted_rules_lem (records_of job)) k no_record)
     key_at k h =
-        sym (get_or-take n keys k 0 h) ∙ ap (λ (l : List ℕ). get_or l k 0) sorted
+        ap (λ (l : List ℕ). get_or l k 0) sorted
         ∙ List·getD-map sort_key_lem (sorted_rules_lem (records_of job)) k no_record
 
-    keys_fit : (k : ℕ) → k < n → KeyFits (get_or keys k 0)
-    keys_fit k h =
-        let r = get_or (sorted_rules_lem (records_of job)) k no_record in
-        rw (key_at k h) (key_fits (shaped r (member_at no_record (sorted_rules_lem (records_of job)) k (omega arith))))
-
-    -- so they are where the first n are lent as a slice
-    pub keys_lent : Keys (take (n - 0) keys)
-    keys_lent =
-        let long = length-take-le n keys keys_long in
-        rw (sub-zero n)
+    pub job_keys : Keys keys
+    job_keys =
         record {
-          few = omega (arith, keys_within);
-          fit = λ k l. let h : k < n = omega arith in rw (get_or-take n keys k 0 h) (keys_fit k h);
+          few = omega (arith, keys_counted, rules_counted (records_of job), ok.few_rules);
+          fit = λ k h.
+              let r = get_or (sorted_rules_lem (records_of job)) k no_record in
+              let l : k < length (sorted_rules_lem (records_of job)) = omega (arith, keys_counted) in
+              rw (key_at k h) (key_fits (shaped r (member_at no_record (sorted_rules_lem (records_of job)) k l)));
         }
 
-    pub rules_lent : rules_of_keys (take (n - 0) keys) ≡ (job_of job).rules
+    pub job_rules : rules_of_keys keys ≡ (job_of job).rules
     unfolding job_of job_of_records
-    rules_lent = rw (sub-zero n) (ap rules_of_keys sorted ∙ keys_say (sorted_rules_lem (records_of job)) shaped)
+    job_rules = ap rules_of_keys sorted ∙ keys_say (sorted_rules_lem (records_of job)) shaped

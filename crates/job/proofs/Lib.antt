@@ -4,6 +4,7 @@ pub mod NoRepeat
 pub mod Shapes
 pub mod RuleRecords
 pub mod RecordChecks
+pub mod Refusals
 pub mod Sound
 pub mod Accepted
 pub mod SortedRules

@@ -4,7 +4,7 @@ use Rattle.grammar.proofs.Basics.{◌≡◌, refl, ◌∙◌, true, false, Bool,
 use Rattle.grammar.proofs.Basics.{◌%◌, le_of_lt, add-one, arith, eqb, length, get_or, take, drop, drop-cons, take-suc}
 use Rattle.grammar.proofs.Basics.{length-take-le, drop_of_length-le, eq-eqb, ne_eqb, eqb-true, eqb-false, ltb-false}
 use Rattle.grammar.proofs.Basics.{le-ltb, not-false, cases}
-use Rattle.job.specs.declared.Checked.{Checked}
+use Rattle.job.specs.Records.{Checked}
 use Rattle.job.specs.Records.{refused, accepted, or_else, RecordFormat, first_fault, length_check_lem, bytes_check}
 
 -- a check that refuses nothing passes each test that would refuse

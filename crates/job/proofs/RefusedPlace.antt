@@ -4,7 +4,7 @@ use Rattle.grammar.proofs.Basics.{arith, eqb, ltb, leb, length, length-append, e
 use Rattle.grammar.proofs.Basics.{◌≡◌, and_right, drop, length-drop, length-take-le}
 use Rattle.job.specs.declared.JobRecord.{JobRecord}
 use Rattle.job.specs.declared.Limits.{Limits}
-use Rattle.job.specs.declared.Checked.{Checked}
+use Rattle.job.specs.Records.{Checked}
 use Rattle.job.specs.Format.{field_classes, records_of, byte_i, byte_s}
 use Rattle.job.specs.Records.{first_fault, length_check_lem, bytes_check}
 use Rattle.job.specs.Check.{count_kind, fault, record_place, job_format, missing, check_of, full_limits, job_check}

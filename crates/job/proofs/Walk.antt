@@ -5,7 +5,7 @@ use lib.Seq.{take-length}
 use Rattle.grammar.specs.Counting.{one_if_lem}
 use Rattle.job.specs.declared.JobRecord.{JobRecord}
 use Rattle.job.specs.declared.Limits.{Limits}
-use Rattle.job.specs.declared.Checked.{Checked}
+use Rattle.job.specs.Records.{Checked}
 use Rattle.job.specs.declared.Tally.{Tally}
 use Rattle.job.specs.Format.{field_classes, row_of, bad_field_lem, has, is_rule_lem, byte_i, byte_s, no_record}
 use Rattle.job.specs.Records.{refused, or_else, first_fault}

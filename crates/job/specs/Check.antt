@@ -5,7 +5,7 @@ use Rattle.job.specs.declared.JobRecord.{JobRecord}
 use Rattle.job.specs.declared.Limits.{Limits}
 use Rattle.job.specs.declared.Level.{Level}
 use Rattle.job.specs.declared.Level.TheVariants.{Full}
-use Rattle.job.specs.declared.Checked.{Checked}
+use Rattle.job.specs.Records.{Checked}
 use Rattle.job.specs.Format.{ClassTable, field_classes, records_of, row_of, bad_field_lem, is_rule_lem, has, byte_i, byte_s}
 use Rattle.job.specs.Records.{RecordFormat, bytes_check}
 pub use Rattle.job.specs.Records.{refused, accepted, or_else}

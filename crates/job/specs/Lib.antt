@@ -1,5 +1,7 @@
 pub mod Format
+pub mod Kinds
 pub mod Records
+pub mod Refusals
 pub mod Check
 pub mod Accepted
 pub mod Job

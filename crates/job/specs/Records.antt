@@ -1,6 +1,10 @@
 -- Refused calls: the checks of records, whatever their format. Assumes nothing.
 use Rattle.std.specs.Prelude.{ℕ, ◌/◌, ◌%◌, cond, not, List, [], ◌∷◌, ◌++◌, eqb, ltb, length}
-use Rattle.job.specs.declared.Checked.{Checked}
+
+-- what checks say of some bytes: a refusal's number and place
+pub record Checked : Type 0 where
+  pub number : ℕ
+  pub place : ℕ
 
 -- a refusal: the number returned and the place; number 0 and place 0 where nothing is refused
 abbrev pub refused : ℕ → ℕ → Checked

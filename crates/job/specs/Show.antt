@@ -1,6 +1,6 @@
 -- Refused calls: showing the refused record. Assumes nothing.
 use Rattle.std.specs.Prelude.{ℕ, ◌*◌, cond, false, ◌&&◌, List, leb, take, drop}
-use Rattle.job.specs.declared.Checked.{Checked}
+use Rattle.job.specs.Records.{Checked}
 use Rattle.job.specs.declared.Part.{Part}
 use Rattle.job.specs.Check.{job_check}
 

@@ -11,7 +11,7 @@ use Rattle.long_jobs.specs.Dialect.{is_long_lem, head_of, body_of, short_of}
 use Rattle.long_jobs.specs.Walk.{next_free}
 use Rattle.long_jobs.specs.Inside.Parts.{written_size, first_records, conversion_of, Room, Reached}
 use Rattle.long_jobs.specs.Inside.Parts.{short_rule_lem}
-use Rattle.long_jobs.proofs.Buffer.{Appended}
+use Rattle.long_jobs.proofs.Buffer.{Appended, appended}
 
 conversion_path : (c d : Conversion) → c.taken ≡ d.taken → c.written ≡ d.written → c ≡ d
 conversion_path c d t w = λ i. record { taken = t i; written = w i }
@@ -132,3 +132,6 @@ module _ (p : Progress) (out after : List ℕ) where
 -- a body has at most eight symbols
 pub body_few : (r : List ℕ) → length (body_of r) ≤ 8
 body_few r = rw length-take (omega arith)
+
+-- what a conversion needs
+pub ruleset steps = (appended, splitting_none, splitting_more, short_written, converted_long, body_few)

@@ -1,10 +1,9 @@
 -- What is known of a record that is not refused by itself. Assumes nothing.
-use Rattle.grammar.proofs.Basics.{◌≡◌, ◌∙◌, sym, true, false, Bool, ◌&&◌, List, ◌∷◌, [], ℕ, ◌<◌, ltb, eqb, ltb-true}
-use Rattle.grammar.proofs.Basics.{eqb-true, eqb-false, not-false, and_left, and_right}
+use Rattle.grammar.proofs.Basics.{◌≡◌, true, false, ◌&&◌, List, ◌∷◌, [], ℕ, ◌<◌, ltb, eqb, ltb-true}
+use Rattle.grammar.proofs.Basics.{eqb-true, not-false, and_left, and_right}
 use Rattle.grammar.proofs.Strings.{All, nil, cons}
-use Rattle.job.specs.declared.JobRecord.{JobRecord}
 use Rattle.job.specs.Format.{field_classes, row_of, bad_field_lem}
-use Rattle.job.proofs.Shapes.{known_row, test_passed}
+use Rattle.job.proofs.Shapes.{test_passed}
 use Rattle.long_jobs.specs.Dialect.{kind_of, is_long_lem, head_of, body_of, short_of, all_below}
 use Rattle.long_jobs.specs.Check.{is_unknown_lem, is_misfit_lem, form_fault_lem}
 
@@ -36,10 +35,3 @@ pub short_fits : (r : List ℕ) → is_long_lem r ≡ false → WellFormed r
     → (eqb (row_of (kind_of r)) 7 ≡ false) × (bad_field_lem field_classes (short_of r) ≡ 0)
 unfolding is_misfit_lem
 short_fits r short f = (rw short at f.known, eqb-true _ _ (not-false _ (rw short at f.fitting)))
-
--- one of a known kind that is not long has one of the seven rows of a job's kinds
-pub known_kind : (r : List ℕ) (long : Bool) (short : JobRecord) → is_unknown_lem r ≡ false → long ≡ is_long_lem r
-    → long ≡ false → short ≡ short_of r
-    → row_of short.kind < 7
-known_kind r long short known is e s =
-    rw s (known_row (kind_of r) (eqb-false (row_of (kind_of r)) 7 (rw (sym is ∙ e) at known)))

@@ -1,6 +1,5 @@
 pub mod LongRecords
-pub mod Remaining
-pub mod AllBelow
+pub mod Tests
 pub mod Formed
 pub mod FirstWalk
 pub mod FirstWalkSteps

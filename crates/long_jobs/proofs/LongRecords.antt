@@ -1,8 +1,9 @@
 -- The records of a long job by place: how many there are, and the twelve bytes of each. By recursion on their number.
 -- Assumes nothing.
-use Rattle.grammar.proofs.Basics.{◌≡◌, refl, ap, List, [], ℕ, ◌<◌, suc, zero, ◌*◌, ◌+◌, ◌/◌, arith, length, get_or, take}
+use Rattle.grammar.proofs.Basics.{◌≡◌, refl, ap, List, ◌∷◌, [], ℕ, ◌<◌, ◌≤◌, suc, zero, ◌*◌, ◌+◌, ◌/◌, arith, length, get_or, take}
 use Rattle.grammar.proofs.Basics.{drop, length-take, length-drop}
 use lib.Seq.{drop-drop}
+use Rattle.std.specs.Simd.{first_chunks}
 use Rattle.long_jobs.specs.Dialect.{twelves, long_records_lem}
 
 twelves_counted : (n : ℕ) (longJob : List ℕ) → length (twelves n longJob) ≡ n
@@ -35,3 +36,16 @@ module _ (longJob : List ℕ) where
     -- what is read as a record has twelve bytes
     pub of_twelve_bytes : (r : List ℕ) → r ≡ get_or (long_records_lem longJob) i [] → length r ≡ 12
     of_twelve_bytes r is = rw is long_record_long
+
+-- std's chunks of twelve are the records
+twelve_each : (n : ℕ) (longJob : List ℕ) → first_chunks 12 n longJob ≡ twelves n longJob
+unfolding twelves
+twelve_each zero longJob = refl
+twelve_each (suc n) longJob = ap (λ rs. take 12 longJob ∷ rs) (twelve_each n (drop 12 longJob))
+
+pub in_chunks : (longJob : List ℕ) → first_chunks 12 (length longJob / 12) longJob ≡ long_records_lem longJob
+unfolding long_records_lem
+in_chunks longJob = twelve_each (length longJob / 12) longJob
+
+pub few_records : (longJob : List ℕ) → length longJob ≤ 49152 → length (long_records_lem longJob) ≤ 4096
+few_records longJob h = omega (arith, long_records_counted longJob)

@@ -7,6 +7,7 @@ use Rattle.grammar.specs.Counting.{one_if_lem}
 use Rattle.job.specs.declared.JobRecord.{JobRecord}
 use Rattle.job.specs.Format.{is_rule_lem, has, no_record}
 use Rattle.job.specs.Check.{count_rules}
+use Rattle.job.proofs.Records.{records_counted}
 use Rattle.long_jobs.specs.Walk.{written_fault_lem, fault_from}
 use Rattle.long_jobs.specs.Inside.Parts.{fault_of}
 
@@ -79,3 +80,6 @@ module _ (rs : List JobRecord) (from j rules : ℕ) (tried : Tried rs from j rul
 
     pub all_counted : (rules ≡ count_rules rs) × (rules ≤ 256)
     all_counted = (tried.counted ∙ rw take_all, tried.few)
+
+-- what the loop over written records needs
+pub ruleset steps = (records_counted, no_fault, all_counted)

@@ -1,7 +1,7 @@
 -- Long bodies: the first walk over a long job's records, refusals 3, 4, 15 and 6, and what comes before it. Assumes
 -- nothing.
 use Rattle.std.specs.Prelude.{ℕ, Bool, cond, not, ◌&&◌, ◌||◌, List, map, eqb, ltb}
-use Rattle.job.specs.declared.Checked.{Checked}
+use Rattle.job.specs.Records.{Checked}
 use Rattle.job.specs.Format.{field_classes, row_of, bad_field_lem}
 use Rattle.job.specs.Records.{RecordFormat, bytes_check}
 use Rattle.job.specs.Check.{is_second_lem}

@@ -1,14 +1,31 @@
 -- The whole outcome of binarize, for every input. Assumes nothing.
-use Rattle.std.specs.Prelude.{ℕ, ◌*◌, true, cond, List, map, ◌++◌, eqb, ltb, length, drop}
+use Rattle.std.specs.Prelude.{ℕ, ◌*◌, true, cond, List, map, ◌++◌, eqb, ltb, length, drop, Result, Ok, Err}
 use Rattle.job.specs.declared.JobRecord.{JobRecord}
-use Rattle.job.specs.declared.Checked.{Checked}
+use Rattle.job.specs.Records.{Checked}
 use Rattle.job.specs.Format.{bytes_of}
 use Rattle.job.specs.Records.{refused, or_else}
 use Rattle.job.specs.Check.{room_check, missing}
-use Rattle.long_jobs.specs.declared.Binarized.{Binarized}
+use Rattle.job.specs.declared.Refusal.{Refusal}
+use Rattle.job.specs.Refusals.{number_of}
 use Rattle.long_jobs.specs.Dialect.{long_records_lem, short_of}
 use Rattle.long_jobs.specs.Check.{long_check_lem}
 use Rattle.long_jobs.specs.Walk.{walked}
+
+-- what binarize answers: a refusal's number and place, 0 and 0 where nothing is refused, and the number of records
+-- written
+pub record Binarized : Type 0 where
+  pub number : ℕ
+  pub place : ℕ
+  pub records : ℕ
+
+-- the answer of a refused call
+abbrev pub refusal : ℕ → ℕ → Binarized
+refusal number place = record { number = number; place = place; records = 0 }
+
+-- what the code's answer says
+abbrev pub binarized_of : Result ℕ Refusal → Binarized
+binarized_of (Ok records) = record { number = 0; place = 0; records = records }
+binarized_of (Err r) = refusal (number_of r.cause) r.place
 
 -- the records that a long job is written as
 abbrev pub job_records : List ℕ → List JobRecord

@@ -1,7 +1,7 @@
 -- Long bodies: the second walk over a long job's records, which converts them and refuses by 14, 5 and 7. Assumes nothing.
 use Rattle.std.specs.Prelude.{ℕ, suc, cond, ◌&&◌, List, [], ◌∷◌, ◌++◌, eqb, ltb, leb, length, get_or, take, drop}
 use Rattle.job.specs.declared.JobRecord.{JobRecord}
-use Rattle.job.specs.declared.Checked.{Checked}
+use Rattle.job.specs.Records.{Checked}
 use Rattle.job.specs.Format.{is_rule_lem, has}
 use Rattle.job.specs.Check.{refused, accepted, count_rules}
 use Rattle.long_jobs.specs.Fresh.{free_in}

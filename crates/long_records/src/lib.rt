@@ -12,3 +12,6 @@ pub const LONG_JOB_BYTES: usize = 49152;
 
 // The most symbols that a body may have.
 pub const BODY_SYMBOLS: usize = 8;
+
+// A record of a long job.
+pub type LongRecord = [u8; RECORD_BYTES];

@@ -1,50 +1,31 @@
 // What the records of a job say: the number of states, the start symbol, the initial and the final states.
-ghost use Rattle.std.specs.Prelude.{◌≡◌, ◌+◌, ◌<◌, max};
+ghost use Rattle.std.specs.Prelude.{◌≡◌, ◌+◌, ◌<◌};
 ghost use Rattle.job.specs.Format.{records_of, has};
 ghost use Rattle.job.specs.Job.{field_of, states_in_lem, states_of};
 
 use job::JobRecord;
 use records::format;
 
-// The larger of two numbers.
-fn larger(a: usize, b: usize) -> usize
-    ensures larger { result ≡ max a b }
-{
-    if a < b {
-        return b;
-    }
-    a
-}
-
 // One more than the largest state in a record, 0 if it names none.
 fn states_in(r: JobRecord) -> usize
     ensures states { result ≡ states_in_lem r }
 {
-    let first = r.first as usize;
-    let third = r.third as usize;
-    if r.kind == b'T' {
-        return larger(first, third) + 1;
+    let first = usize::from(r.first);
+    let third = usize::from(r.third);
+    match r.kind {
+        b'T' => first.max(third) + 1,
+        b'I' | b'F' => first + 1,
+        _ => 0,
     }
-    if r.kind == b'I' {
-        return first + 1;
-    }
-    if r.kind == b'F' {
-        return first + 1;
-    }
-    0
 }
 
-// The number of states, in one pass. The invariant, of `states`:
-// after the first k records it holds one more than the largest state in their T, I and F records, 0 if there is none
+// The number of states, in one pass: one more than the largest state in the T, I and F records, 0 if there is none.
 pub fn state_count(job: &[u8]) -> usize
     ensures states { result ≡ states_of (records_of job.now) }
 {
-    let count = job.len() / 4;
     let mut states = 0;
-    let mut k = 0;
-    while k < count {
-        states = larger(states, states_in(format::record_at(job, k)));
-        k += 1;
+    for k in 0..job.len() / 4 {
+        states = states.max(states_in(format::record_at(job, k)));
     }
     states
 }
@@ -53,14 +34,11 @@ pub fn state_count(job: &[u8]) -> usize
 pub fn field_of(job: &[u8], kind: u8) -> u8
     ensures field { result ≡ field_of kind (records_of job.now) }
 {
-    let count = job.len() / 4;
-    let mut i = 0;
-    while i < count {
+    for i in 0..job.len() / 4 {
         let r = format::record_at(job, i);
         if r.kind == kind {
             return r.first;
         }
-        i += 1;
     }
     0
 }
@@ -69,13 +47,5 @@ pub fn field_of(job: &[u8], kind: u8) -> u8
 pub fn has_record(job: &[u8], r: JobRecord) -> bool
     ensures says { result ≡ has (records_of job.now) r }
 {
-    let count = job.len() / 4;
-    let mut i = 0;
-    while i < count {
-        if format::alike(job, i, r) {
-            return true;
-        }
-        i += 1;
-    }
-    false
+    format::is_among(job, job.len() / 4, r)
 }

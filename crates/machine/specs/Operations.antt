@@ -1,11 +1,11 @@
 -- Table and machine: the whole outcome of start and advance, for every input: the answer and what is lent afterwards.
 -- Assumes nothing.
 use Rattle.std.specs.Prelude.{ℕ, true, false, cond, List, eqb}
-use Rattle.job.specs.declared.Checked.{Checked}
+use Rattle.job.specs.Records.{Checked}
 use Rattle.job.specs.Check.{Checks, job_check, short_table, short_reasons, or_else}
 use Rattle.job.specs.Job.{job_of}
-use Rattle.machine.specs.declared.Started.{Started}
-use Rattle.machine.specs.declared.Advanced.{Advanced}
+use Rattle.machine.specs.Answers.{Started}
+use Rattle.machine.specs.Answers.{Advanced}
 use Rattle.machine.specs.Table.{Lent, statuses}
 use Rattle.machine.specs.Start.{started}
 use Rattle.machine.specs.Step.{is_finished}

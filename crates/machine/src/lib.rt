@@ -4,23 +4,21 @@
 
 pub mod theorems;
 
-// What start answers: a refusal's number and place, 0 and 0 where nothing is refused, and the number of states.
+// What steps come to: whether no pending byte is left, the steps made and the rise in pair meetings.
 #[derive(Clone, Copy)]
-pub struct Started {
-    pub number: usize,
-    pub place: usize,
-    pub states: usize,
-}
-
-// What advance answers: a refusal's number and place, whether no pending byte is left, the steps made and the rise in
-// pair meetings.
-#[derive(Clone, Copy)]
-pub struct Advanced {
-    pub number: usize,
-    pub place: usize,
+pub struct Ended {
     pub finished: bool,
     pub steps: u64,
     pub meetings: u64,
+}
+
+// A rule A → Y Z and its rank.
+#[derive(Clone, Copy)]
+pub struct PairRule {
+    pub head: u8,
+    pub second: u8,
+    pub third: u8,
+    pub rank: u16,
 }
 
 // A walk over 32 partners of a taken transition: the place of the first partner, that of what it gives and that of

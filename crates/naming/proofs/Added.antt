@@ -1,72 +1,44 @@
 -- A table with one name more: its entry behind the others, and the last of its bucket. Assumes nothing.
-use Rattle.grammar.proofs.Basics.{◌≡◌, sym, ◌∙◌, ap, ap₂, false, List, [], ◌∷◌, ◌++◌, ℕ, ◌<◌, ◌≤◌, ◌+◌, ◌*◌, suc}
-use Rattle.grammar.proofs.Basics.{arith, length, get_or, set, eqb, eqb-true, eqb-false, cases, add-one, length-set}
+use Rattle.grammar.proofs.Basics.{◌≡◌, sym, ◌∙◌, ap, ap₂, false, List, [], ◌∷◌, ◌++◌, ℕ, ◌<◌, ◌≤◌, ◌+◌, suc}
+use Rattle.grammar.proofs.Basics.{arith, get_or, set, eqb, eqb-true, eqb-false, cases, add-one, length-set}
 use Rattle.grammar.proofs.Basics.{get_or-set_same, get_or-set_other}
 use Rattle.abnf.specs.Meaning.{same_name, is_among_lem}
 use Rattle.scanner.specs.Parts.{part_of_lem}
-use Rattle.naming.specs.Table.{Inside, hash_from, hash_of, name_in, names_in, link_in, Table}
+use Rattle.naming.specs.declared.table.Entry.{Entry}
+use Rattle.naming.specs.Named.{Inside}
+use Rattle.naming.specs.Table.{entry_in, hash_from, hash_of, name_in, names_in, link_in, Table}
 use Rattle.naming.proofs.Names.{among_none}
 use Rattle.naming.proofs.Entries.{last_or_before, names_counted, name_at, names_same}
 
-before_set : (l : List ℕ) (i j x : ℕ) → j < i → get_or (set l i x) j 0 ≡ get_or l j 0
-before_set l i j x h = get_or-set_other l i j x 0 (λ e. absurd (omega arith))
-
--- three numbers put side by side into a list
-module _ (l : List ℕ) (p a b c : ℕ) where
-  abbrev three : List ℕ
-  three = set (set (set l p a) (p + 1) b) (p + 2) c
-
-  before_three : (j : ℕ) → j < p → get_or three j 0 ≡ get_or l j 0
-  before_three j h =
-      before_set (set (set l p a) (p + 1) b) (p + 2) j c (omega arith)
-      ∙ before_set (set l p a) (p + 1) j b (omega arith) ∙ before_set l p j a h
-
-  module _ (long : p + 2 < length l) where
-    first_three : get_or three p 0 ≡ a
-    first_three =
-        before_set (set (set l p a) (p + 1) b) (p + 2) p c (omega arith)
-        ∙ before_set (set l p a) (p + 1) p b (omega arith) ∙ get_or-set_same l p a 0 (omega arith)
-
-    second_three : get_or three (p + 1) 0 ≡ b
-    second_three =
-        before_set (set (set l p a) (p + 1) b) (p + 2) (p + 1) c (omega arith)
-        ∙ get_or-set_same (set l p a) (p + 1) b 0 (rw length-set (omega arith))
-
-    third_three : get_or three (p + 2) 0 ≡ c
-    third_three = get_or-set_same (set (set l p a) (p + 1) b) (p + 2) c 0 (rw (length-set, length-set) long)
-
 -- a name with the hash h, put into a table
-module _ {text entries buckets : List ℕ} {n : ℕ} (table : Table text entries buckets n) (room : n < 5462) (at end : ℕ)
-    {h : ℕ} (is : h ≡ hash_of (part_of_lem text at end)) (small : h < 1024) where
-  abbrev more : List ℕ
-  more = three entries (3 * n) at end (get_or buckets h 0)
+module _ {text : List ℕ} {entries : List Entry} {buckets : List ℕ} {n : ℕ} (table : Table text entries buckets n)
+    (room : n < 5462) (at end : ℕ) {h : ℕ} (is : h ≡ hash_of (part_of_lem text at end)) (small : h < 1024) where
+  abbrev entry : Entry
+  entry = record { at = at; end = end; before = get_or buckets h 0 }
+
+  abbrev more : List Entry
+  more = set entries n entry
 
   abbrev lasts : List ℕ
   lasts = set buckets h (n + 1)
 
-  long : 3 * n + 2 < length entries
-  long = omega (arith, table.long_entries)
+  new_is : entry_in more n ≡ entry
+  new_is = get_or-set_same entries n entry _ (omega (arith, table.long_entries))
 
-  kept : (i : ℕ) → i < 3 * n → get_or more i 0 ≡ get_or entries i 0
-  kept = before_three entries (3 * n) at end (get_or buckets h 0)
-
-  first_new : get_or more (3 * n) 0 ≡ at
-  first_new = first_three entries (3 * n) at end (get_or buckets h 0) long
-
-  second_new : get_or more (3 * n + 1) 0 ≡ end
-  second_new = second_three entries (3 * n) at end (get_or buckets h 0) long
-
-  link_new : link_in more n ≡ get_or buckets h 0
-  link_new = third_three entries (3 * n) at end (get_or buckets h 0) long
+  kept : (i : ℕ) → i < n → entry_in more i ≡ entry_in entries i
+  kept i l = get_or-set_other entries n i entry _ (λ e. absurd (omega arith))
 
   name_new : name_in text more n ≡ part_of_lem text at end
-  name_new = ap₂ (part_of_lem text) first_new second_new
+  name_new = rw new_is
 
   name_kept : (i : ℕ) → i < n → name_in text more i ≡ name_in text entries i
-  name_kept i l = ap₂ (part_of_lem text) (kept (3 * i) (omega arith)) (kept (3 * i + 1) (omega arith))
+  name_kept i l = rw (kept i l)
+
+  link_new : link_in more n ≡ get_or buckets h 0
+  link_new = ap (λ (e : Entry). e.before) new_is
 
   link_kept : (i : ℕ) → i < n → link_in more i ≡ link_in entries i
-  link_kept i l = kept (3 * i + 2) (omega arith)
+  link_kept i l = ap (λ (e : Entry). e.before) (kept i l)
 
   last_new : get_or lasts h 0 ≡ n + 1
   last_new = get_or-set_same buckets h (n + 1) 0 (omega (arith, table.long_buckets))
@@ -100,10 +72,9 @@ module _ {text entries buckets : List ℕ} {n : ℕ} (table : Table text entries
     pub table_added : Table text more lasts (n + 1)
     table_added = record {
       few = omega arith;
-      long_entries = rw (length-set, length-set, length-set) table.long_entries;
+      long_entries = rw length-set table.long_entries;
       long_buckets = rw length-set table.long_buckets;
-      inside = λ i l. last_or_before i n (omega arith) (λ e. rw (e, first_new, second_new) inside)
-          (λ p. rw (kept (3 * i) (omega arith), kept (3 * i + 1) (omega arith)) (table.inside i p));
+      inside = λ i l. last_or_before i n (omega arith) (λ e. rw (e, new_is) inside) (λ p. rw (kept i p) (table.inside i p));
       distinct = λ i j l m. last_or_before j n (omega arith)
           (λ e. rw e (ap₂ same_name (name_kept i (omega arith)) name_new ∙ distinct_new i (omega arith)))
           (λ p. ap₂ same_name (name_kept i (omega arith)) (name_kept j p) ∙ table.distinct i j l p);

@@ -1,5 +1,5 @@
 -- The names that begin the lines of a text, entered line by line. Assumes nothing.
-use Rattle.grammar.proofs.Basics.{ℕ, ◌+◌, ◌*◌, ◌≤◌, ◌<◌, List, ◌≡◌, ◌∙◌, sym, ap, length, arith}
+use Rattle.grammar.proofs.Basics.{ℕ, ◌*◌, ◌≤◌, List, [], ◌≡◌, refl, ◌∙◌, sym, ap, ap₂, length, arith}
 use Rattle.abnf.specs.declared.Edition.{Edition}
 use Rattle.abnf.specs.declared.Stage.TheVariants.{LineStart}
 use Rattle.abnf.specs.declared.Fault.TheVariants.{Nothing}
@@ -8,51 +8,52 @@ use Rattle.abnf.specs.Meaning.{names_from, names_of}
 use Rattle.scanner.specs.Parts.{part_of_lem}
 use Rattle.cursor.specs.declared.Head.{Head}
 use Rattle.cursor.specs.Cursor.{said_at, FineAt, HeadRead}
-use Rattle.naming.specs.Table.{Table, names_in, entered}
+use Rattle.naming.specs.Named.{Named, entered}
 use Rattle.naming.specs.Walk.{RuleEnds}
+use Rattle.naming.proofs.Found.{entered_few}
 use Rattle.naming.proofs.LineNames.{fine_start, lines_start, line_enters, no_more_lines}
 
--- the names of the lines before an offset are in the table
-pub record Collected (e : Edition) (text entries buckets : List ℕ) (count at : ℕ) : Type 0 where
-  pub few : 3 * count ≤ at
+-- the names of the lines before an offset are entered
+pub record Collected (e : Edition) (text : List ℕ) (names : List (List ℕ)) (at : ℕ) : Type 0 where
+  pub few : 3 * length names ≤ at
   pub fine : FineAt e LineStart text at
-  pub table : Table text entries buckets count
-  pub all : names_from (names_in text entries count) (said_at e LineStart text at).lines ≡ names_of (lines_of e text)
+  pub all : names_from names (said_at e LineStart text at).lines ≡ names_of (lines_of e text)
 
-pub collected_start : (e : Edition) (text entries buckets : List ℕ) → fault_of e text ≡ Nothing →
-    Table text entries buckets 0 → Collected e text entries buckets 0 0
-unfolding names_in
-collected_start e text entries buckets h t =
-    record { few = omega arith; fine = fine_start e text h; table = t; all = ap names_of (lines_start e text) }
+-- of a text with names
+abbrev pub CollectedIn : Named → Named → ℕ → Type 0
+CollectedIn first now at =
+    Collected first.edition first.text now.names at × (now ≡ record first { names = now.names })
 
-module _ (e : Edition) (text entries buckets : List ℕ) (count at : ℕ)
-    (c : Collected e text entries buckets count at) where
-  pub room_for_one : length text ≤ 16384 → at < length text → count < 5462
-  room_for_one short l = omega (arith, c.few)
+pub collected_start : (t : Named) → fault_of t.edition t.text ≡ Nothing → t.names ≡ [] → CollectedIn t t 0
+collected_start t h none = (
+  record {
+    few = rw none (omega arith);
+    fine = fine_start t.edition t.text h;
+    all = rw none (ap names_of (lines_start t.edition t.text));
+  },
+  refl,
+)
 
-  pub collected_line : (h : Head) (next : ℕ) (entries' buckets' : List ℕ) (n : ℕ) → HeadRead e text at h →
-      RuleEnds e text h.body next → n ≤ count + 1 → Table text entries' buckets' n →
-      names_in text entries' n ≡ entered (names_in text entries count) (part_of_lem text at h.end) →
-      Collected e text entries' buckets' n next
-  collected_line h next entries' buckets' n r ends more t names =
-      record {
-        few = omega (arith, c.few, r.past, r.order, ends.past);
-        fine = ends.fine;
-        table = t;
-        all =
-            ap (λ ns. names_from ns (said_at e LineStart text next).lines) names
-            ∙ sym (line_enters e text at h r (names_in text entries count) next ends) ∙ c.all;
-      }
+module _ (first now : Named) (at : ℕ) (c : CollectedIn first now at) where
+  pub collected_line : (h : Head) (next : ℕ) (more : Named) → HeadRead first.edition first.text at h →
+      RuleEnds first.edition first.text h.body next →
+      more ≡ record now { names = entered now.names (part_of_lem now.text at h.end) } → CollectedIn first more next
+  collected_line h next more r ends is =
+      let name = part_of_lem first.text at h.end in
+      let names : more.names ≡ entered now.names name =
+      ap (λ (t : Named). t.names) is ∙ ap (λ (t : Named). entered now.names (part_of_lem t.text at h.end)) c.1 in (
+        record {
+          few = rw names (omega (arith, c.0.few, r.past, r.order, ends.past, entered_few now.names name));
+          fine = ends.fine;
+          all =
+              ap (λ ns. names_from ns (said_at first.edition LineStart first.text next).lines) names
+              ∙ sym (line_enters first.edition first.text at h r now.names next ends) ∙ c.0.all;
+        },
+        is ∙ ap₂ (λ (t : Named) ns. record t { names = ns }) c.1 (sym (ap (λ (t : Named). t.names) is)),
+      )
 
-  pub all_collected : length text ≤ at → names_in text entries count ≡ names_of (lines_of e text)
+  pub all_collected : length first.text ≤ at →
+      now ≡ record first { names = names_of (lines_of first.edition first.text) }
   unfolding names_from
-  all_collected h = rw (no_more_lines e text at h) at c.all
-
--- tables have one length
-module _ (text entries entries' buckets buckets' : List ℕ) (n n' : ℕ) (t : Table text entries buckets n)
-    (t' : Table text entries' buckets' n') where
-  pub same_entries : length entries ≡ length entries'
-  same_entries = t.long_entries ∙ sym t'.long_entries
-
-  pub same_buckets : length buckets ≡ length buckets'
-  same_buckets = t.long_buckets ∙ sym t'.long_buckets
+  all_collected h =
+      c.1 ∙ ap (λ ns. record first { names = ns }) (rw (no_more_lines first.edition first.text at h) at c.0.all)

@@ -1,11 +1,13 @@
 pub mod Names
+pub mod Viewed
 pub mod Comparing
+pub mod Found
 pub mod Entries
+pub mod EmptyTable
 pub mod Chains
 pub mod Added
 pub mod LineWalk
 pub mod LineNames
-pub mod Counts
 pub mod Collecting
 pub mod Mentioning
 pub mod NameFaults

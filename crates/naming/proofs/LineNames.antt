@@ -13,7 +13,7 @@ use Rattle.abnf.specs.Uses.{uses_from, uses_of}
 use Rattle.scanner.specs.Parts.{part_of_lem}
 use Rattle.cursor.specs.declared.Head.{Head}
 use Rattle.cursor.specs.Cursor.{said_at, uses_at, FineAt, HeadRead}
-use Rattle.naming.specs.Table.{Inside, entered}
+use Rattle.naming.specs.Named.{entered}
 use Rattle.naming.specs.Walk.{RuleEnds}
 
 -- a text of the part begins with a line, and what it says is what it says from there on
@@ -60,9 +60,6 @@ names_kept before ls =
 
 -- over the head of a line, whose name is inside the text, and over the line
 module _ (e : Edition) (text : List ℕ) (at : ℕ) (h : Head) (r : HeadRead e text at h) where
-  pub head_inside : Inside text at h.end
-  head_inside = record { order = omega (arith, r.past); within = omega (arith, r.order, r.within) }
-
   module _ (before : List (List ℕ)) where
     pub head_enters :
         names_from before (said_at e LineStart text at).lines

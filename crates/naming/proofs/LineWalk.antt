@@ -1,6 +1,6 @@
 -- A line element by element: what stands after an element goes on with the line, or ends it. Assumes nothing.
 use Rattle.grammar.proofs.Basics.{ℕ, ◌≤◌, List, ◌≡◌, refl, ◌∙◌, sym, ap, Bool, true, false, arith, false≢true}
-use Rattle.grammar.proofs.Basics.{true≢false, length}
+use Rattle.grammar.proofs.Basics.{true≢false}
 use Rattle.abnf.specs.declared.Edition.{Edition}
 use Rattle.abnf.specs.declared.Stage.TheVariants.{Open}
 use Rattle.abnf.specs.Reading.{Said}
@@ -37,9 +37,6 @@ pub line_begins : (e : Edition) (text : List ℕ) (body : ℕ) → ElementBegins
 line_begins e text body h = record { order = omega arith; element = h; lines = refl }
 
 module _ (e : Edition) (text : List ℕ) (body at : ℕ) (o : OnLine e text body at) where
-  pub no_end : length text ≤ at → ⊥
-  no_end h = omega (arith, o.element.inside)
-
   module _ (x : ElementPart) (r : ElementRead e text at x) where
     lines_after : (said_at e Open text body).lines ≡ (said_after e x.after text x.next).lines
     lines_after = o.lines ∙ ap (λ (s : Said). s.lines) r.says
@@ -64,3 +61,9 @@ module _ (e : Edition) (text : List ℕ) (body at : ℕ) (o : OnLine e text body
             fine = rw last at r.after;
             lines = rw last at lines_after;
           }
+
+-- an element of the line of another is read
+pub record Passing (e : Edition) (text : List ℕ) (body : ℕ) (x : ElementPart) : Type 0 where
+  pub at : ℕ
+  pub on : OnLine e text body at
+  pub read : ElementRead e text at x

@@ -1,6 +1,7 @@
 -- The names among the elements of a line, looked up one after the other. Assumes nothing.
-use Rattle.grammar.proofs.Basics.{ℕ, List, ◌++◌, ◌≡◌, refl, ◌∙◌, sym, ap, Bool, true, false, false≢true, true≢false}
+use Rattle.grammar.proofs.Basics.{ℕ, List, ◌++◌, ◌≡◌, refl, ◌∙◌, sym, ap, Bool, true, false, false≢true}
 use Rattle.grammar.proofs.Basics.{not-true, not-false}
+use Rattle.std.specs.Prelude.{Ok, Err}
 use Rattle.abnf.specs.declared.Edition.{Edition}
 use Rattle.abnf.specs.declared.Stage.TheVariants.{Open}
 use Rattle.abnf.specs.declared.Fault.TheVariants.{At}
@@ -48,16 +49,11 @@ module _ (e : Edition) (text : List ℕ) (names : List (List ℕ)) (body at : �
       (uses_in at x.literal (part_of_lem text at x.end) ++ uses_after e x.after text x.next)
   here defined = l.uses defined ∙ ap (name_fault_lem names defined) r.uses
 
-  pub name_missing : unknown ≡ true → Mentions e text names body (record { missing = true; at = at })
-  name_missing h =
-      record {
-        all = λ none. absurd (true≢false none);
-        uses = λ none. absurd (true≢false none);
-        first =
-            λ some defined. here defined
-            ∙ missing names defined at (part_of_lem text at x.end) (uses_after e x.after text x.next)
-            x.literal (sym is ∙ h);
-      }
+  pub name_missing : unknown ≡ true → Mentions e text names body (Err at)
+  name_missing h defined =
+      here defined
+      ∙ missing names defined at (part_of_lem text at x.end) (uses_after e x.after text x.next)
+      x.literal (sym is ∙ h)
 
   name_known : unknown ≡ false → (defined : List (List ℕ)) →
       name_fault_lem names defined (uses_at e Open text body)
@@ -77,11 +73,9 @@ module _ (e : Edition) (text : List ℕ) (names : List (List ℕ)) (body at : �
               ∙ ap (name_fault_lem names defined) (another e x.after text x.next (sym rules ∙ f) r.after).uses;
         }
 
-    pub none_missing : unknown ≡ false → rule ≡ true →
-        Mentions e text names body (record { missing = false; at = x.next })
+    pub none_missing : unknown ≡ false → rule ≡ true → Mentions e text names body (Ok x.next)
     none_missing h t =
         record {
-          all = λ none. line_ends e text body at l.on x r rule rules t;
-          uses = λ none defined. rw (ends x.after (sym rules ∙ t)) at (name_known h defined);
-          first = λ some. absurd (false≢true some);
+          ends = line_ends e text body at l.on x r rule rules t;
+          uses = λ defined. rw (ends x.after (sym rules ∙ t)) at (name_known h defined);
         }

@@ -1,6 +1,7 @@
 -- The names that have = above are the first of all, so a name's number says whether it is one. Assumes nothing.
-use Rattle.grammar.proofs.Basics.{ℕ, ◌+◌, ◌-◌, ◌<◌, ◌≤◌, List, [], ◌∷◌, ◌≡◌, refl, ◌∙◌, sym, ap, Bool, true, false}
+use Rattle.grammar.proofs.Basics.{ℕ, ◌+◌, ◌≤◌, List, [], ◌∷◌, ◌≡◌, refl, ◌∙◌, sym, ap, Bool, true, false}
 use Rattle.grammar.proofs.Basics.{not, arith, length, take, ltb, length-append, length-take-le, false≢true, true≢false}
+use Rattle.std.specs.Prelude.{Ok, Err}
 use mathlib.Core.Bool.{beq}
 use mir.Val.{bool_byte}
 use Rattle.abnf.specs.declared.Edition.{Edition}
@@ -16,8 +17,7 @@ use Rattle.abnf_jobs.specs.Names.{name_fault_lem, name_fault_of}
 use Rattle.scanner.specs.Parts.{part_of_lem}
 use Rattle.cursor.specs.declared.Head.{Head}
 use Rattle.cursor.specs.Cursor.{said_at, uses_at, FineAt, HeadRead}
-use Rattle.naming.specs.declared.Mentioned.{Mentioned}
-use Rattle.naming.specs.Table.{entered}
+use Rattle.naming.specs.Named.{entered}
 use Rattle.naming.specs.Walk.{is_defines_lem, Mentions}
 use Rattle.naming.proofs.Names.{among_first}
 use Rattle.naming.proofs.LineNames.{fine_start, lines_start, uses_start, no_more_uses, names_kept, head_enters}
@@ -119,23 +119,17 @@ module _ (e : Edition) (text : List ℕ) (names : List (List ℕ)) where
         }
 
     -- over its elements
-    module _ (f : beq (ltb i d) defines ≡ false) (m : Mentioned)
-        (looked : Mentions e text names h.body m) where
-      pub fault_later : m.missing ≡ true → At m.at ≡ name_fault_of e text
-      fault_later t = sym (looked.first t (take after names)) ∙ (past_head f).fault
+    module _ (f : beq (ltb i d) defines ≡ false) where
+      pub fault_later : (missing : ℕ) → Mentions e text names h.body (Err missing) → At missing ≡ name_fault_of e text
+      fault_later missing looked = sym (looked (take after names)) ∙ (past_head f).fault
 
-      pub past_line : m.missing ≡ false → Reached e LineStart text names after m.at
-      past_line none =
-          let r = past_head f in
-          let ends = looked.all none in
-          record {
-            few = r.few;
-            fine = ends.fine;
-            all = ap (names_from (take after names)) (sym ends.lines) ∙ r.all;
-            fault = sym (looked.uses none (take after names)) ∙ r.fault;
-          }
-
-      pub line_falls : m.missing ≡ false → length text - m.at < length text - at
-      line_falls none =
-          let ends = looked.all none in
-          omega (arith, head.past, head.order, ends.past, ends.within)
+      module _ (next : ℕ) (known : Mentions e text names h.body (Ok next)) where
+        pub past_line : Reached e LineStart text names after next
+        past_line =
+            let r = past_head f in
+            record {
+              few = r.few;
+              fine = known.ends.fine;
+              all = ap (names_from (take after names)) (sym known.ends.lines) ∙ r.all;
+              fault = sym (known.uses (take after names)) ∙ r.fault;
+            }

@@ -26,7 +26,7 @@ same_rest : (b c : ℕ) (s t : List ℕ) → same_name (b ∷ s) (c ∷ t) ≡ t
 unfolding same_name
 same_rest b c s t e = and_right (eqb (lower b) (lower c)) (same_name s t) e
 
--- the same names are the same as the same others, have one length and one hash
+-- the same names are the same as the same others, have one hash
 pub same_others : (s t u : List ℕ) → same_name s t ≡ true → same_name s u ≡ same_name t u
 unfolding same_name
 same_others [] [] u e = refl
@@ -35,13 +35,6 @@ same_others (b ∷ s) [] u e = absurd (false≢true e)
 same_others (b ∷ s) (c ∷ t) [] e = refl
 same_others (b ∷ s) (c ∷ t) (d ∷ u) e =
     ap₂ (λ x y. eqb x (lower d) && y) (same_first b c s t e) (same_others s t u (same_rest b c s t e))
-
-pub same_length : (s t : List ℕ) → same_name s t ≡ true → length s ≡ length t
-unfolding same_name
-same_length [] [] e = refl
-same_length [] (c ∷ t) e = absurd (false≢true e)
-same_length (b ∷ s) [] e = absurd (false≢true e)
-same_length (b ∷ s) (c ∷ t) e = ap suc (same_length s t (same_rest b c s t e))
 
 pub same_hash : (h : ℕ) (s t : List ℕ) → same_name s t ≡ true → hash_from h s ≡ hash_from h t
 unfolding same_name hash_from

@@ -1,5 +1,5 @@
 -- What is read of a line of a text, and where the next one begins. Assumes nothing.
-use Rattle.std.specs.Prelude.{ℕ, ◌≤◌, ◌<◌, ◌≡◌, Bool, true, false, not, ◌&&◌, List, length}
+use Rattle.std.specs.Prelude.{ℕ, ◌≤◌, ◌<◌, ◌≡◌, Bool, true, false, not, ◌&&◌, List, length, Result, Ok, Err}
 use Rattle.abnf.specs.declared.Edition.{Edition}
 use Rattle.abnf.specs.declared.Mark.{Mark}
 use Rattle.abnf.specs.declared.Mark.TheVariants.{Defines, Adds}
@@ -10,7 +10,6 @@ use Rattle.abnf_jobs.specs.Names.{name_fault_lem}
 use Rattle.cursor.specs.declared.After.{After}
 use Rattle.cursor.specs.declared.After.TheVariants.{ElementAfter, AlternativeAfter, RuleAfter}
 use Rattle.cursor.specs.Cursor.{said_at, uses_at, FineAt}
-use Rattle.naming.specs.declared.Mentioned.{Mentioned}
 
 abbrev pub is_rule_after : After → Bool
 is_rule_after ElementAfter = false
@@ -32,12 +31,16 @@ pub record RuleEnds (e : Edition) (text : List ℕ) (body next : ℕ) : Type 0 w
   pub fine : FineAt e LineStart text next
   pub lines : (said_at e Open text body).lines ≡ (said_at e LineStart text next).lines
 
+-- all names of a line are known from an element on: the line ends at the offset, whatever names have = above
+pub record AllKnown (e : Edition) (text : List ℕ) (names : List (List ℕ)) (body next : ℕ) : Type 0 where
+  pub ends : RuleEnds e text body next
+  pub uses :
+      (defined : List (List ℕ)) →
+      name_fault_lem names defined (uses_at e Open text body) ≡ name_fault_lem names defined (uses_at e LineStart text next)
+
 -- names of a line looked up from an element on: where none is missing the line ends at the offset, else the first that
 -- is missing stands there, whatever names have = above
-pub record Mentions (e : Edition) (text : List ℕ) (names : List (List ℕ)) (body : ℕ) (m : Mentioned) : Type 0 where
-  pub all : m.missing ≡ false → RuleEnds e text body m.at
-  pub uses :
-      m.missing ≡ false → (defined : List (List ℕ)) →
-      name_fault_lem names defined (uses_at e Open text body) ≡ name_fault_lem names defined (uses_at e LineStart text m.at)
-  pub first :
-      m.missing ≡ true → (defined : List (List ℕ)) → name_fault_lem names defined (uses_at e Open text body) ≡ At m.at
+abbrev pub Mentions : Edition → List ℕ → List (List ℕ) → ℕ → Result ℕ ℕ → Type 0
+Mentions e text names body (Ok next) = AllKnown e text names body next
+Mentions e text names body (Err at) =
+    (defined : List (List ℕ)) → name_fault_lem names defined (uses_at e Open text body) ≡ At at

@@ -1,13 +1,12 @@
 // The names that begin the lines of a text.
-ghost use Rattle.std.specs.Prelude.{◌≡◌, ◌≤◌, length};
+ghost use Rattle.std.specs.Prelude.{◌≡◌, [], ◌≤◌, length};
 ghost use Rattle.abnf.specs.declared.Fault.TheVariants.{Nothing};
 ghost use Rattle.abnf.specs.Reading.{fault_of, lines_of};
 ghost use Rattle.abnf.specs.Meaning.{names_of};
 ghost use Rattle.cursor.specs.Cursor.{ElementBegins};
-ghost use Rattle.naming.specs.Table.{Table, names_in};
 ghost use Rattle.naming.specs.Walk.{is_rule_after, RuleEnds};
 
-use crate::{Part, table};
+use crate::table::NamedText;
 use abnf::Edition;
 use cursor::{After, rules};
 
@@ -15,11 +14,7 @@ use cursor::{After, rules};
 pub fn ends_rule(after: After) -> bool
     ensures says { result ≡ is_rule_after after }
 {
-    match after {
-        After::ElementAfter => false,
-        After::AlternativeAfter => false,
-        After::RuleAfter => true,
-    }
+    matches!(after, After::RuleAfter)
 }
 
 // Where the line ends whose first element begins at an offset.
@@ -27,34 +22,27 @@ fn rule_end(edition: Edition, text: &[u8], body: usize) -> usize
     requires element { ElementBegins edition text.now body }
     ensures ends { RuleEnds edition text.now body result }
 {
-    let mut at = body;
-    while at < text.len() {
-        let x = rules::element_at(edition, text, at);
-        let after = x.after;
-        if ends_rule(after) {
-            return x.next;
-        }
-        at = x.next;
+    let mut x = rules::element_at(edition, text, body);
+    while !ends_rule(x.after) {
+        x = rules::element_at(edition, text, x.next);
     }
-    at
+    x.next
 }
 
-// Puts the names that begin lines into an empty table, in the order in which they first do; how many they are.
-pub fn collect(edition: Edition, text: &[u8], entries: &mut [u16], buckets: &mut [u16]) -> usize
-    requires short { length text.now ≤ 16384 }
-    requires fine { fault_of edition text.now ≡ Nothing }
-    requires empty { Table text.now entries.old buckets.old 0 }
-    ensures table { Table text.now entries.new buckets.new result }
-    ensures names { names_in text.now entries.new result
-        ≡ names_of (lines_of edition text.now) }
+// Enters the names that begin lines, in the order in which they first do.
+pub fn collect(named: &mut NamedText)
+    requires short { length named.old.text ≤ 16384 }
+    requires fine { fault_of named.old.edition named.old.text ≡ Nothing }
+    requires none { named.old.names ≡ [] }
+    ensures names { named.new ≡ record named.old { names = names_of (lines_of named.old.edition named.old.text) } }
 {
-    let mut count = 0;
+    let edition = named.edition();
+    let text = named.text();
     let mut at = 0;
+    // Kept (3): the next line is found only by reading this one to its end, so no range or iterator has the offsets.
     while at < text.len() {
         let head = rules::head_at(edition, text, at);
-        let name = Part { at, end: head.end };
-        count = table::enter(text, name, entries, buckets, count);
+        named.enter(at, head.end);
         at = rule_end(edition, text, head.body);
     }
-    count
 }

@@ -6,106 +6,73 @@ ghost use Rattle.abnf.specs.Meaning.{names_of};
 ghost use Rattle.abnf_jobs.specs.Names.{name_fault_of};
 ghost use Rattle.cursor.specs.Cursor.{ElementBegins};
 ghost use Rattle.scanner.specs.Parts.{part_of_lem};
-ghost use Rattle.naming.specs.Table.{Inside, Table, names_in};
+ghost use Rattle.naming.specs.Named.{Inside};
 ghost use Rattle.naming.specs.Walk.{is_defines_lem, is_unknown_lem, Mentions};
 
-use crate::{Mentioned, Part, lines, table};
-use abnf::{Edition, Fault, Mark};
+use crate::lines;
+use crate::table::NamedText;
+use abnf::{Fault, Mark};
 use cursor::{ElementPart, rules};
 
 // Whether a mark begins a rule.
 fn is_defines(mark: Mark) -> bool
     ensures says { result ≡ is_defines_lem mark }
 {
-    match mark {
-        Mark::Defines => true,
-        Mark::Adds => false,
-    }
+    matches!(mark, Mark::Defines)
 }
 
-// Whether an element is a name that is not in the table.
-fn unknown(
-    text: &[u8],
-    at: usize,
-    x: ElementPart,
-    entries: &[u16],
-    buckets: &[u16],
-    count: usize,
-) -> bool
-    requires inside { Inside text.now at x.end }
-    requires table { Table text.now entries.now buckets.now count }
-    ensures says { result ≡ is_unknown_lem x.literal (names_in text.now entries.now count)
-        (part_of_lem text.now at x.end) }
+// Whether an element is a name that is not entered.
+fn unknown(named: &NamedText, at: usize, x: ElementPart) -> bool
+    requires inside { Inside named.now.text at x.end }
+    ensures says { result ≡ is_unknown_lem x.literal named.now.names (part_of_lem named.now.text at x.end) }
 {
-    if x.literal {
-        return false;
-    }
-    let name = Part { at, end: x.end };
-    count <= table::find(text, name, entries, buckets, count)
+    !x.literal && named.find(&named.text()[at..x.end]).is_none()
 }
 
-// Looks up the names among the elements of a line from an offset on.
-fn mentions(
-    edition: Edition,
-    text: &[u8],
-    body: usize,
-    entries: &[u16],
-    buckets: &[u16],
-    count: usize,
-) -> Mentioned
-    requires element { ElementBegins edition text.now body }
-    requires table { Table text.now entries.now buckets.now count }
-    ensures looked { Mentions edition text.now
-        (names_in text.now entries.now count) body result }
+// Looks up the names among the elements of a line from an offset on: where the next line begins if all have rules, or
+// else where the first stands that has none.
+fn mentions(named: &NamedText, body: usize) -> Result<usize, usize>
+    requires element { ElementBegins named.now.edition named.now.text body }
+    ensures looked { Mentions named.now.edition named.now.text named.now.names body result }
 {
     let mut at = body;
-    while at < text.len() {
-        let x = rules::element_at(edition, text, at);
-        if unknown(text, at, x, entries, buckets, count) {
-            return Mentioned { missing: true, at };
+    loop {
+        let x = rules::element_at(named.edition(), named.text(), at);
+        if unknown(named, at, x) {
+            return Err(at);
         }
         let after = x.after;
-        if lines::ends_rule(after) {
-            return Mentioned {
-                missing: false,
-                at: x.next,
-            };
-        }
         at = x.next;
+        if lines::ends_rule(after) {
+            return Ok(at);
+        }
     }
-    Mentioned { missing: false, at }
 }
 
 // The offset of the first name without a rule, with = and one above it, or with =/ and no = above it. The names that
 // have = above are the first of all, so a name's number says whether it is one of them.
-pub fn name_fault(
-    edition: Edition,
-    text: &[u8],
-    entries: &[u16],
-    buckets: &[u16],
-    count: usize,
-) -> Fault
-    requires fine { fault_of edition text.now ≡ Nothing }
-    requires table { Table text.now entries.now buckets.now count }
-    requires names { names_in text.now entries.now count ≡ names_of (lines_of edition text.now) }
-    ensures fault { result ≡ name_fault_of edition text.now }
+pub fn name_fault(named: &NamedText) -> Fault
+    requires fine { fault_of named.now.edition named.now.text ≡ Nothing }
+    requires names { named.now.names ≡ names_of (lines_of named.now.edition named.now.text) }
+    ensures fault { result ≡ name_fault_of named.now.edition named.now.text }
 {
+    let edition = named.edition();
+    let text = named.text();
     let mut defined = 0;
     let mut at = 0;
+    // Kept (3): the next line is found only by looking up the names of this one.
     while at < text.len() {
         let head = rules::head_at(edition, text, at);
-        let name = Part { at, end: head.end };
         let mark = head.mark;
-        let above = table::find(text, name, entries, buckets, count) < defined;
+        let above = named.number(&text[at..head.end]) < defined;
         if above == is_defines(mark) {
             return Fault::At(at);
         }
-        defined += !above as usize;
-        let m = mentions(edition, text, head.body, entries, buckets, count);
-        if m.missing {
-            return Fault::At(m.at);
+        defined += usize::from(!above);
+        match mentions(named, head.body) {
+            Ok(next) => at = next,
+            Err(missing) => return Fault::At(missing),
         }
-        at = m.at;
     }
     Fault::Nothing
 }

@@ -2,13 +2,12 @@
 -- says something new, and what is not written says what it said. Assumes nothing.
 use Rattle.grammar.proofs.Basics.{◌≡◌, refl, ◌∙◌, sym, ap, ap₂, true, false, false≢true, Bool, ◌&&◌, not, cond, List}
 use Rattle.grammar.proofs.Basics.{ℕ}
-use Rattle.grammar.proofs.Basics.{◌<◌, ◌≤◌, ◌+◌, ◌*◌, ◌/◌, ◌%◌, ◌-◌, arith, eqb, ltb, leb, length, get_or, set, take}
-use Rattle.grammar.proofs.Basics.{drop}
+use Rattle.std.specs.Prelude.{slice_range}
+use Rattle.grammar.proofs.Basics.{◌<◌, ◌≤◌, ◌+◌, ◌*◌, ◌/◌, ◌%◌, ◌-◌, arith, eqb, ltb, leb, length, get_or, set}
 use Rattle.grammar.proofs.Basics.{length-set, get_or-set_same, get_or-set_other, eqb-true, eqb-false, eq-eqb, ne_eqb}
 use Rattle.grammar.proofs.Basics.{ltb-true}
 use Rattle.grammar.proofs.Basics.{ltb-false, leb-true, leb-false, cases, and-false, and-true}
 use lib.Bits.{bit_and}
-use mir.Val.{bool_byte}
 use Rattle.machine.specs.Table.{table_size, Status, byte_status, says_absent, says_pending, says_done, is_pending_lem}
 use Rattle.machine.specs.Table.{is_done_lem, statuses}
 use Rattle.machine.specs.Theorems.Bytes.{byte_for, rewritten}
@@ -27,9 +26,6 @@ pub record Writing (before after : List ℕ) (k ones rest byte : ℕ) : Type 0 w
   pub bytes : (p : ℕ) →
       cond (eqb (p / 32) k && bit_of rest (p % 32)) byte (get_or after p 0)
       ≡ cond (eqb (p / 32) k && bit_of ones (p % 32)) byte (get_or before p 0)
-
-pub writing_begins : (l : List ℕ) (k ones byte : ℕ) → Writing l l k ones ones byte
-writing_begins l k ones byte = record { long = refl; bytes = λ p. refl }
 
 -- one more
 pub writing_goes : {l l' : List ℕ} {k ones rest rest' byte j : ℕ} → Writing l l' k ones rest byte → First rest j →
@@ -103,24 +99,6 @@ pub bit_new : (a b j : ℕ) → b < 4294967296 → j < 32 →
     bit_of (bit_and a (4294967295 - b)) j ≡ (bit_of a j && not (bit_of b j))
 bit_new a b j l h = bit_and_lem a (4294967295 - b) j ∙ ap (λ x. bit_of a j && x) (bit_not 32 b j l h)
 
--- bytes that are counted where they differ
-pub still_same : (a b : List ℕ) (different i : ℕ) →
-    (different ≡ 0 → (k : ℕ) → k < i → get_or a k 0 ≡ get_or b k 0) →
-    different + bool_byte (not (eqb (get_or a i 0) (get_or b i 0))) ≡ 0 → (k : ℕ) → k < i + 1 →
-    get_or a k 0 ≡ get_or b k 0
-still_same a b different i before z k h =
-    cases (eqb k i)
-    (λ e. rw (eqb-true k i e) (cases (eqb (get_or a i 0) (get_or b i 0))
-    (λ t. eqb-true (get_or a i 0) (get_or b i 0) t)
-    (λ t. absurd (omega (arith, rw t at z)))))
-    (λ e.
-    let other = eqb-false k i e in
-    before (omega arith) k (omega arith))
-
-pub one_different : (b : Bool) → bool_byte b ≤ 1
-one_different true = omega arith
-one_different false = omega arith
-
 -- row k is merged after the rows before it
 module _ (old new before table table1 table2 : List ℕ) (k wp wp' wd wd' : ℕ)
     (pending : (j : ℕ) → j < 32 → bit_of wp j ≡ is_pending_lem (get_or (table_of_bits new) (k * 32 + j) 0))
@@ -179,22 +157,36 @@ module _ (old new before table table1 table2 : List ℕ) (k wp wp' wd wd' : ℕ)
         rest = λ p l. elsewhere p (λ e. omega arith) ∙ rows.rest p (omega arith);
       }
 
+-- a byte of a part
+byte_of_part : (bits : List ℕ) (at i : ℕ) → i < 128 → get_or (slice_range bits at (at + 128)) i 0 ≡ get_or bits (at + i) 0
+byte_of_part bits at i l = part_at bits at (at + 128) i (omega arith)
+
 -- the halves of a part are equal, byte by byte
-pub part_same : (old new : List ℕ) (n : ℕ) →
-    ((i : ℕ) → i < 128 → get_or (take (n * 128 + 128 - n * 128) (drop (n * 128) old)) i 0
-    ≡ get_or (take (n * 128 + 128 - n * 128) (drop (n * 128) new)) i 0) →
-    ((i : ℕ) → i < 128 → get_or (take (8192 + n * 128 + 128 - (8192 + n * 128)) (drop (8192 + n * 128) old)) i 0
-    ≡ get_or (take (8192 + n * 128 + 128 - (8192 + n * 128)) (drop (8192 + n * 128) new)) i 0) → PartSame old new n
+pub part_same : (old new pending pending' done done' : List ℕ) (n : ℕ) →
+    pending ≡ slice_range old (pending_half * half_size + n * 128) (pending_half * half_size + n * 128 + 128) →
+    pending' ≡ slice_range new (pending_half * half_size + n * 128) (pending_half * half_size + n * 128 + 128) →
+    done ≡ slice_range old (done_half * half_size + n * 128) (done_half * half_size + n * 128 + 128) →
+    done' ≡ slice_range new (done_half * half_size + n * 128) (done_half * half_size + n * 128 + 128) →
+    ((i : ℕ) → i < 128 → get_or pending i 0 ≡ get_or pending' i 0) →
+    ((i : ℕ) → i < 128 → get_or done i 0 ≡ get_or done' i 0) → PartSame old new n
 unfolding bit_statuses bit_at
-part_same old new n pending done p l e =
+part_same old new pending pending' done done' n e1 e2 e3 e4 first second p l e =
     let i : p / 8 % 128 < 128 = omega arith in
-    let first : pending_half * half_size + p / 8 ≡ n * 128 + p / 8 % 128 = omega arith in
-    let second : done_half * half_size + p / 8 ≡ 8192 + n * 128 + p / 8 % 128 = omega arith in
     ap₂ (λ (a b : ℕ). bit_status (bit_of a (p % 8)) (bit_of b (p % 8)))
-    (rw first (sym (part_at new (n * 128) (n * 128 + 128) (p / 8 % 128) (omega arith)) ∙ sym (pending (p / 8 % 128) i)
-    ∙ part_at old (n * 128) (n * 128 + 128) (p / 8 % 128) (omega arith)))
-    (rw second (sym (part_at new (8192 + n * 128) (8192 + n * 128 + 128) (p / 8 % 128) (omega arith))
-    ∙ sym (done (p / 8 % 128) i) ∙ part_at old (8192 + n * 128) (8192 + n * 128 + 128) (p / 8 % 128) (omega arith)))
+    (same pending_half pending pending' e1 e2 i (first (p / 8 % 128) i))
+    (same done_half done done' e3 e4 i (second (p / 8 % 128) i))
+  where
+    same : (half : ℕ) (part part' : List ℕ) →
+        part ≡ slice_range old (half * half_size + n * 128) (half * half_size + n * 128 + 128) →
+        part' ≡ slice_range new (half * half_size + n * 128) (half * half_size + n * 128 + 128) → p / 8 % 128 < 128 →
+        get_or part (p / 8 % 128) 0 ≡ get_or part' (p / 8 % 128) 0 →
+        get_or new (half * half_size + p / 8) 0 ≡ get_or old (half * half_size + p / 8) 0
+    same half part part' is is' i equal =
+        let at : half * half_size + p / 8 ≡ half * half_size + n * 128 + p / 8 % 128 = omega arith in
+        rw at (sym (byte_of_part new (half * half_size + n * 128) (p / 8 % 128) i)
+        ∙ ap (λ (bs : List ℕ). get_or bs (p / 8 % 128) 0) (sym is') ∙ sym equal
+        ∙ ap (λ (bs : List ℕ). get_or bs (p / 8 % 128) 0) is
+        ∙ byte_of_part old (half * half_size + n * 128) (p / 8 % 128) i)
 
 -- a part that is the same is merged as it stands
 pub part_merged : {old new before table : List ℕ} (n : ℕ) → n < 64 → PartSame old new n → Merges old new before →

@@ -8,7 +8,7 @@ use Rattle.grammar.proofs.Basics.{ltb-false}
 use Rattle.grammar.proofs.Basics.{cases, or-false, or-true, or_assoc, and-true, and-false, and_false_right, same_test}
 use Rattle.grammar.proofs.Basics.{eq-eqb}
 use Prim.Native.Nat.{◌^◌}
-use lib.Bits.{bit_or, or_zero_r, or_comm}
+use lib.Bits.{bit_or, or_zero_r}
 use lib.ListN.{get_or-replicate}
 use lib.Seq.{get_or-drop}
 use mir.Val.{bool_byte}
@@ -18,7 +18,7 @@ use Rattle.machine.specs.Table.{statuses}
 use Rattle.bit_machine.specs.BitTable.{half_size, pending_half, done_half, bit_of, bit_at, bit_status, bit_statuses}
 use Rattle.bit_machine.specs.Alike.{Alike}
 use Rattle.bit_machine.specs.Inside.Change.{RowWritten}
-use Rattle.bit_machine.proofs.BitLaws.{bit_or_lem, bit_zero, no_bits}
+use Rattle.bit_machine.proofs.BitLaws.{bit_zero}
 use Rattle.bit_machine.proofs.BitBytes.{bit_after_set}
 use Rattle.packing.specs.Packing.{Says, PackedRows}
 
@@ -31,17 +31,6 @@ bit_with word j i false l =
     let none : 0 * 2 ^ j % 2 ^ 32 ≡ 0 = omega arith in
     ap (λ (x : ℕ). bit_of (bit_or word x) i) none ∙ ap (λ (x : ℕ). bit_of x i) (or_zero_r word)
     ∙ sym (ap (λ b. bit_of word i || b) (and-false (eqb i j)) ∙ or-false (bit_of word i))
-
--- two bytes are 0 where their bits together are
-or_left_zero : (a b : ℕ) → a < 256 → bit_or a b ≡ 0 → a ≡ 0
-or_left_zero a b l e =
-    no_bits 8 a l
-    (λ j h. first_false (bit_of a j) (bit_of b j)
-    (sym (bit_or_lem a b j) ∙ ap (λ (x : ℕ). bit_of x j) e ∙ bit_zero j))
-  where
-    first_false : (x y : Bool) → (x || y) ≡ false → x ≡ false
-    first_false true y e = e
-    first_false false y e = refl
 
 -- a part that is a stretch of a table
 pub part_at : (table : List ℕ) (at end i : ℕ) → i < end - at →
@@ -138,17 +127,6 @@ packed_alike {table} packed reasons =
           ap₂ bit_status (packed.pending p l) (packed.done p l) ∙ status_again (byte_status (get_or table p 0));
       reasons = refl;
     }
-
--- bytes whose bits together are 0 are all 0
-pub still_blank : (part : List ℕ) (any i : ℕ) → any < 256 → get_or part i 0 < 256 →
-    (any ≡ 0 → (k : ℕ) → k < i → get_or part k 0 ≡ 0) → bit_or any (get_or part i 0) ≡ 0 →
-    (k : ℕ) → k < i + 1 → get_or part k 0 ≡ 0
-still_blank part any i l m before z k h =
-    cases (eqb k i)
-    (λ e. rw (eqb-true k i e) (or_left_zero (get_or part i 0) any m (or_comm (get_or part i 0) any ∙ z)))
-    (λ e.
-    let other = eqb-false k i e in
-    before (or_left_zero any (get_or part i 0) l z) k (omega arith))
 
 -- a part that is blank counts as packed
 blank_at : (table : List ℕ) (at end : ℕ) → ((i : ℕ) → get_or (take (end - at) (drop at table)) i 0 ≡ 0) →

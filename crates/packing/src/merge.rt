@@ -1,25 +1,26 @@
 // What a machine on bits has changed, written into the byte table: the places that say something new get a 1 or a 2.
-ghost use Rattle.std.specs.Prelude.{◌≡◌, true, List, ℕ, ◌+◌, ◌*◌, ◌<◌, ◌≤◌, length, get_or};
+ghost use Rattle.std.specs.Prelude.{◌≡◌, true, List, ℕ, ◌+◌, ◌*◌, ◌<◌, ◌≤◌, length, get_or, slice_range};
 ghost use Rattle.machine.specs.Table.{table_size};
 ghost use Rattle.machine.specs.Theorems.Bytes.{rewritten};
-ghost use Rattle.bit_machine.specs.BitTable.{bits_size, bit_statuses};
+ghost use Rattle.bit_machine.specs.BitTable.{bits_size, half_size, bit_statuses};
+ghost use Rattle.bits.specs.Half.{number_of};
 ghost use Rattle.packing.specs.Merging.{OnesWritten, Merges, RowsMerged, PartSame};
 
 use crate::{HALF_PARTS, PART_BYTES};
-use bits::HALF_BYTES;
+use bits::Half;
+use bits::word::Ones;
 
-// Whether two parts of one length are equal: a loop without a way out, so that the compiler takes many bytes at a time.
+// Whether two parts of one length are equal: a walk without a way out, so that the compiler takes many bytes at a time.
+// Kept (4): `a == b` was tried and took twice the time, as it stops at bytes that differ, and most parts are equal.
 fn is_same(a: &[u8], b: &[u8]) -> bool
     requires sized { (length a.now ≡ 128) × (length b.now ≡ 128) }
     ensures same { result ≡ true → (i : ℕ) → i < 128 → get_or a.now i 0 ≡ get_or b.now i 0 }
 {
-    let mut different = 0u8;
-    let mut i = 0;
-    while i < PART_BYTES {
-        different += (a[i] != b[i]) as u8;
-        i += 1;
+    let mut different = false;
+    for (x, y) in a.iter().zip(b) {
+        different |= x != y;
     }
-    different == 0
+    !different
 }
 
 // Writes a byte at the places of row k that are ones of a word.
@@ -27,11 +28,8 @@ fn write_ones(table: &mut [u8], k: usize, ones: u32, byte: u8)
     requires within { (k < 2048) × (table_size ≤ length table.old) }
     ensures written { OnesWritten table.old table.new k ones byte }
 {
-    let mut rest = ones;
-    while rest != 0 {
-        let j = bits::word::first_one(rest);
+    for j in Ones(ones) {
         table[k * 32 + j] = byte;
-        rest = bits::word::without_first(rest);
     }
 }
 
@@ -50,19 +48,23 @@ fn merge_row(old: &[u8], new: &[u8], table: &mut [u8], k: usize)
     write_ones(table, k, done, 2);
 }
 
+// The bytes of the 32 rows of a part in a half.
+fn part(bits: &[u8], half: Half, n: usize) -> &[u8]
+    requires within { (n < 64) × (bits_size ≤ length bits.now) }
+    ensures part { result.now ≡ slice_range bits.now (number_of half * half_size + n * 128)
+        (number_of half * half_size + n * 128 + 128) }
+{
+    let at = half.begin() + n * PART_BYTES;
+    &bits[at..at + PART_BYTES]
+}
+
 // Whether two bit tables agree in the 32 rows of a part, in both halves.
 fn is_part_same(old: &[u8], new: &[u8], n: usize) -> bool
     requires within { (n < 64) × (bits_size ≤ length old.now) × (bits_size ≤ length new.now) }
     ensures same { result ≡ true → PartSame old.now new.now n }
 {
-    let at = n * PART_BYTES;
-    let end = at + PART_BYTES;
-    if !is_same(&old[at..end], &new[at..end]) {
-        return false;
-    }
-    let done_at = HALF_BYTES + at;
-    let done_end = done_at + PART_BYTES;
-    is_same(&old[done_at..done_end], &new[done_at..done_end])
+    is_same(part(old, Half::Pending, n), part(new, Half::Pending, n))
+        && is_same(part(old, Half::Done, n), part(new, Half::Done, n))
 }
 
 // Merges the 32 rows of a part, after the parts before it.
@@ -77,10 +79,8 @@ fn merge_part(old: &[u8], new: &[u8], table: &mut [u8], n: usize)
     if is_part_same(old, new, n) {
         return;
     }
-    let mut k = n * 32;
-    while k < n * 32 + 32 {
+    for k in n * 32..n * 32 + 32 {
         merge_row(old, new, table, k);
-        k += 1;
     }
 }
 
@@ -91,9 +91,7 @@ pub fn merge(old: &[u8], new: &[u8], table: &mut [u8])
     requires merges { Merges old.now new.now table.old }
     ensures merged { table.new ≡ rewritten (bit_statuses new.now) table.old }
 {
-    let mut n = 0;
-    while n < HALF_PARTS {
+    for n in 0..HALF_PARTS {
         merge_part(old, new, table, n);
-        n += 1;
     }
 }

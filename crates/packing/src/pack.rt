@@ -5,19 +5,14 @@ ghost use Rattle.bit_machine.specs.BitTable.{bits_size, bit_of};
 ghost use Rattle.packing.specs.Packing.{Says, PackedRows};
 
 use crate::{PART_BYTES, RowWords, TABLE_PARTS};
-use bits::{DONE_HALF, PENDING_HALF};
+use bits::Half;
 
-// Whether all bytes of a part are 0: a loop without a way out, so that the compiler takes many at a time.
+// Whether all bytes of a part are 0: a walk without a way out, so that the compiler takes many at a time.
+// Kept (2): one function for bytes and words (as in columns::turn) needs a trait with a law of `|`, longer than this.
 fn is_blank(part: &[u8]) -> bool
     ensures blank { result ≡ true → (i : ℕ) → get_or part.now i 0 ≡ 0 }
 {
-    let mut any = 0;
-    let mut i = 0;
-    while i < part.len() {
-        any = any | part[i];
-        i += 1;
-    }
-    any == 0
+    part.iter().fold(0, |any, byte| any | *byte) == 0
 }
 
 // A word with one bit more.
@@ -25,10 +20,11 @@ fn with_bit(word: u32, j: usize, bit: bool) -> u32
     requires within { j < 32 }
     ensures bits { (i : ℕ) → bit_of result i ≡ (bit_of word i || (eqb i j && bit)) }
 {
-    word | ((bit as u32) << j)
+    word | (u32::from(bit) << j)
 }
 
 // The words of row k of a byte table.
+// Kept (2): one walk makes both words. A walk for each, with the test passed, was tried and took twice the time.
 fn row_words(table: &[u8], k: usize) -> RowWords
     requires within { (k < 2048) × (table_size ≤ length table.now) }
     ensures pending { Says is_pending_lem table.now k result.pending }
@@ -37,12 +33,10 @@ fn row_words(table: &[u8], k: usize) -> RowWords
     let at = k * 32;
     let mut pending = 0;
     let mut done = 0;
-    let mut j = 0;
-    while j < 32 {
+    for j in 0..32 {
         let byte = table[at + j];
         pending = with_bit(pending, j, transitions::table::is_pending(byte));
         done = with_bit(done, j, transitions::table::is_done(byte));
-        j += 1;
     }
     RowWords { pending, done }
 }
@@ -60,8 +54,8 @@ pub fn pack_row(table: &[u8], bits: &mut [u8], k: usize)
         return;
     }
     let w = row_words(table, k);
-    bits::table::write_row(bits, PENDING_HALF, k, w.pending);
-    bits::table::write_row(bits, DONE_HALF, k, w.done);
+    bits::table::write_row(bits, Half::Pending, k, w.pending);
+    bits::table::write_row(bits, Half::Done, k, w.done);
 }
 
 // Packs the four rows of a part, besides all rows before them.
@@ -76,10 +70,8 @@ fn pack_part(table: &[u8], bits: &mut [u8], n: usize)
     if is_blank(&table[at..end]) {
         return;
     }
-    let mut k = n * 4;
-    while k < n * 4 + 4 {
+    for k in n * 4..n * 4 + 4 {
         pack_row(table, bits, k);
-        k += 1;
     }
 }
 
@@ -90,10 +82,8 @@ pub fn pack(table: &[u8], bits: &mut [u8])
     ensures long { length bits.new ≡ bits_size }
     ensures packed { PackedRows (λ r. true) table.now bits.new }
 {
-    let mut n = 0;
-    while n < TABLE_PARTS {
+    for n in 0..TABLE_PARTS {
         pack_part(table, bits, n);
-        n += 1;
     }
 }
 
@@ -104,9 +94,7 @@ pub fn pack_symbol(table: &[u8], bits: &mut [u8], symbol: usize)
     ensures packed { (rows : ℕ → Bool) → PackedRows rows table.now bits.old
         → PackedRows (λ r. eqb (r % 64) symbol || rows r) table.now bits.new }
 {
-    let mut q = 0;
-    while q < 32 {
+    for q in 0..32 {
         pack_row(table, bits, q * 64 + symbol);
-        q += 1;
     }
 }

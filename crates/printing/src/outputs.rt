@@ -1,124 +1,103 @@
-// Whole outputs, each written from the front of the buffer on. Each function returns how many bytes its output has,
-// whether there was room for all of them or not.
-ghost use Rattle.std.specs.Prelude.{◌≡◌, ◌++◌, ◌*◌, ◌≤◌, min, length, get_or};
-ghost use Rattle.spelling.specs.Words.{ascii};
-ghost use Rattle.spelling.specs.Lines.{number_line_lem, answer_line_lem, code_line_lem, lines as lines_of};
+// The outputs of the programs, each a text that is put on a page.
+ghost use Rattle.std.specs.Prelude.{◌≡◌, ℕ, ◌≤◌, List, min, length, get_or};
+ghost use Rattle.spelling.specs.Lines.{code_line_lem, lines as lines_of};
 ghost use Rattle.spelling.specs.Records.{record_line_lem};
-ghost use Rattle.printing.specs.Outputs.{report_output_lem, codes_output_lem, most_records, shown_records_lem, explain_output_lem};
 ghost use Rattle.spelling.specs.Inside.Placed.{Placed};
+ghost use Rattle.printing.specs.Outputs.{report_output_lem, codes_output_lem, shown_records_lem, explain_output_lem};
 
 use crate::Report;
-use spelling::{lines, records};
+use spelling::page::Page;
 
 // A listing has each of the 32 × 64 × 32 transitions at most once.
 const MOST_RECORDS: usize = 65536;
 
-// The report's three lines of numbers.
-fn report_numbers(out: &mut [u8], states: u64, examined: u64, joins: u64) -> usize
-    ensures placed { Placed (number_line_lem (ascii "states") states ++ number_line_lem (ascii "examined") examined
-        ++ number_line_lem (ascii "joins") joins) 85 0 out.old result out.new }
-{
-    let next = lines::number_line(out, 0, b"states", states);
-    let next = lines::number_line(out, next, b"examined", examined);
-    lines::number_line(out, next, b"joins", joins)
+// What a program prints.
+pub trait Output {
+    ghost text: { Self → List ℕ };
+
+    fn put(&self, page: &mut Page)
+        requires front { page.old.at ≡ 0 }
+        ensures placed { Placed (text self.now) (length (text self.now)) page.old page.new };
 }
 
-// The report's three lines of answers.
-fn report_answers(out: &mut [u8], at: usize, start: bool, empty: bool, growing: bool) -> usize
-    requires early { at ≤ 85 }
-    ensures placed { Placed (answer_line_lem (ascii "start") start ++ answer_line_lem (ascii "empty") empty
-        ++ answer_line_lem (ascii "growing") growing) 32 at out.old result out.new }
-{
-    let next = lines::answer_line(out, at, b"start", start);
-    let next = lines::answer_line(out, next, b"empty", empty);
-    lines::answer_line(out, next, b"growing", growing)
-}
+impl Output for Report {
+    ghost text = { report_output_lem };
 
-// The report's output.
-pub fn report_lines(out: &mut [u8], report: Report) -> usize
-    ensures placed { Placed (report_output_lem report) 117 0 out.old result out.new }
-{
-    if report.number != 0 {
-        return lines::refused_line(out, 0, report.number, report.place);
+    fn put(&self, page: &mut Page) {
+        if self.number != 0 {
+            return page.refused_line(self.number, self.place);
+        }
+        page.number_line(b"states", self.states as u64);
+        page.number_line(b"examined", self.examined);
+        page.number_line(b"joins", self.joins);
+        page.answer_line(b"start", self.start);
+        page.answer_line(b"empty", self.empty);
+        page.answer_line(b"growing", self.growing);
     }
-    let next = report_numbers(out, report.states as u64, report.examined, report.joins);
-    report_answers(out, next, report.start, report.empty, report.growing)
 }
 
-// The smaller of two numbers.
-fn least(a: usize, b: usize) -> usize
-    ensures least { result ≡ min a b }
-{
-    if a < b {
-        return a;
+// The codes of the symbols, or a refusal's number and place.
+#[derive(Clone, Copy)]
+pub struct Codes<'a> {
+    pub number: usize,
+    pub place: usize,
+    pub codes: &'a [u8],
+}
+
+impl Output for Codes<'_> {
+    ghost text = { λ c. codes_output_lem c.number c.place c.codes.now };
+
+    fn put(&self, page: &mut Page) {
+        if self.number != 0 {
+            return page.refused_line(self.number, self.place);
+        }
+        code_lines(page, self.codes);
     }
-    b
 }
 
-// The lines of the first n codes.
-fn code_lines(out: &mut [u8], codes: &[u8], n: usize) -> usize
-    requires within { (n ≤ 64) × (n ≤ length codes.now) }
-    ensures placed { Placed (lines_of (λ X. code_line_lem X (get_or codes.now X 0)) n) (42 * n) 0
-        out.old result out.new }
-{
-    let mut next = 0;
-    let mut x = 0;
-    while x < n {
-        next = lines::code_line(out, next, x as u64, codes[x]);
-        x += 1;
+// Why a form is accepted, or a refusal's number and place.
+#[derive(Clone, Copy)]
+pub struct Explanation<'a> {
+    pub number: usize,
+    pub place: usize,
+    pub accepted: bool,
+    pub records: usize,
+    pub listing: &'a [u8],
+}
+
+impl Output for Explanation<'_> {
+    ghost text = { λ e. explain_output_lem e.number e.place e.accepted e.records e.listing.now };
+
+    fn put(&self, page: &mut Page) {
+        if self.number != 0 {
+            return page.refused_line(self.number, self.place);
+        }
+        page.answer_line(b"accepted", self.accepted);
+        page.number_line(b"records", self.records as u64);
+        record_lines(page, self.records, self.listing);
     }
-    next
 }
 
-// The output of the codes.
-pub fn codes_lines(out: &mut [u8], number: usize, place: usize, codes: &[u8]) -> usize
-    ensures placed { Placed (codes_output_lem number place codes.now) 2688 0
-        out.old result out.new }
+// A line for each symbol 0 to 63 that has a code.
+fn code_lines(page: &mut Page, codes: &[u8])
+    requires front { page.old.at ≡ 0 }
+    ensures placed { Placed (lines_of (λ X. code_line_lem X (get_or codes.now X 0)) (min 64 (length codes.now))) 2688
+        page.old page.new }
 {
-    if number != 0 {
-        return lines::refused_line(out, 0, number, place);
+    let shown = codes.len().min(64);
+    for (x, code) in codes[..shown].iter().enumerate() {
+        page.code_line(x as u64, *code);
     }
-    code_lines(out, codes, least(64, codes.len()))
 }
 
-// The lines of the first n records, after the two lines of the answer.
-fn record_lines(out: &mut [u8], at: usize, listing: &[u8], n: usize) -> usize
-    requires within { (at ≤ 42) × (n ≤ most_records) × (8 * n ≤ length listing.now) }
-    ensures placed { Placed (lines_of (record_line_lem listing.now) n) (156 * n) at
-        out.old result out.new }
+// The lines of the records that are said to be there and that a listing holds whole.
+fn record_lines(page: &mut Page, records: usize, listing: &[u8])
+    requires early { page.old.at ≤ 42 }
+    ensures placed { Placed (lines_of (record_line_lem listing.now) (shown_records_lem records listing.now)) 10223616
+        page.old page.new }
 {
-    let mut next = at;
-    let mut k = 0;
-    while k < n {
-        next = records::record_line(out, next, listing, k);
-        k += 1;
+    let shown = records.min(MOST_RECORDS).min(listing.len() / 8);
+    for k in 0..shown {
+        page.record_line(listing, k);
     }
-    next
-}
-
-// How many records are shown.
-fn shown_records(records: usize, listing: &[u8]) -> usize
-    ensures count { result ≡ shown_records_lem records listing.now }
-{
-    least(least(records, MOST_RECORDS), listing.len() / 8)
-}
-
-// The output of an explanation.
-pub fn explain_lines(
-    out: &mut [u8],
-    number: usize,
-    place: usize,
-    accepted: bool,
-    records: usize,
-    listing: &[u8],
-) -> usize
-    ensures placed { Placed (explain_output_lem number place accepted records listing.now) 10223658 0
-        out.old result out.new }
-{
-    if number != 0 {
-        return lines::refused_line(out, 0, number, place);
-    }
-    let next = lines::answer_line(out, 0, b"accepted", accepted);
-    let next = lines::number_line(out, next, b"records", records as u64);
-    record_lines(out, next, listing, shown_records(records, listing))
 }

@@ -1,7 +1,7 @@
 -- A walk over the bodies of a text whose names begin lines and whose characters are bytes: with each body the table of
 -- letters and the count of variables grow as the roles do. Assumes nothing.
 use Rattle.grammar.proofs.Basics.{◌≡◌, refl, ◌∙◌, sym, ap, subst, List, [], ◌∷◌, ◌++◌, append-nil, append_assoc, map}
-use Rattle.grammar.proofs.Basics.{List·Memᴰ, List·Memᴰ·head, Memᴰ·append-right, ℕ, ◌≤◌, ◌+◌, ◌-◌, arith, length}
+use Rattle.grammar.proofs.Basics.{List·Memᴰ, List·Memᴰ·head, Memᴰ·append-right, ◌≤◌, ◌+◌, ◌-◌, arith, length}
 use Rattle.grammar.proofs.Basics.{replicate, length-append}
 use Rattle.abnf.specs.Text.{Line}
 use Rattle.abnf.specs.Meaning.{names_of}
@@ -13,6 +13,8 @@ use Rattle.abnf_jobs.proofs.FineItems.{Fine, item_fine}
 use Rattle.abnf_jobs.proofs.RolePlaces.{bodies_begin}
 use Rattle.abnf_jobs.proofs.RuleRange.{begun_length}
 use Rattle.bodies.specs.Items.{code_of}
+use Rattle.std.specs.Prelude.{None}
+use Rattle.text_symbols.specs.declared.letters.Variables.{Variables}
 use Rattle.text_symbols.specs.Letters.{Letters, LettersTaken}
 use Rattle.reader.proofs.KeptItems.{items_back}
 use Rattle.reader.proofs.LetterTables.{letters_of_names, letters_with_tails}
@@ -32,18 +34,18 @@ unfolding with_bodies
 one_body_more lines done b = bodies_apart (for_names (length (names_of lines))) done (b ∷ [])
 
 -- some bodies are walked, with this table and count, and these are left
-pub record Walked (lines : List Line) (done left : List Body) (letters : List ℕ) (taken : ℕ) : Type 0 where
+pub record Walked (lines : List Line) (done left : List Body) (v : Variables) : Type 0 where
   pub all : done ++ left ≡ bodies_of lines
-  pub table : Letters (roles_up_to lines done) letters taken
+  pub table : Letters (roles_up_to lines done) v
 
 pub walked_none : (lines : List Line) →
-    Walked lines [] (bodies_of lines) (replicate 26 255) (length (names_of lines))
+    Walked lines [] (bodies_of lines) (record { letters = replicate 26 None; taken = length (names_of lines) })
 unfolding with_bodies
 walked_none lines = record { all = refl; table = letters_of_names (length (names_of lines)) }
 
-module _ {lines : List Line} {done left : List Body} {letters : List ℕ} {taken : ℕ}
-    (it : Walked lines done left letters taken) where
-  pub walked_few : taken ≤ length (roles_of lines)
+module _ {lines : List Line} {done left : List Body} {v : Variables}
+    (it : Walked lines done left v) where
+  pub walked_few : v.taken ≤ length (roles_of lines)
   walked_few =
       let more = begun_length (bodies_begin (roles_up_to lines done) left) in
       let whole = bodies_apart (for_names (length (names_of lines))) done left in
@@ -53,12 +55,11 @@ module _ {lines : List Line} {done left : List Body} {letters : List ℕ} {taken
     pub walked_bodies : done ≡ bodies_of lines
     walked_bodies = sym (append-nil done) ∙ rw (← none) it.all
 
-    pub walked_all : Letters (roles_of lines) letters taken
+    pub walked_all : Letters (roles_of lines) v
     walked_all = rw (← walked_bodies) it.table
 
 -- one body more
-module _ {lines : List Line} (known : Known lines) (bytes : Bytes lines) {done rest : List Body} {letters : List ℕ}
-    {taken : ℕ} (b : Body) (it : Walked lines done (b ∷ rest) letters taken) where
+module _ {lines : List Line} (known : Known lines) (bytes : Bytes lines) {done rest : List Body} {v : Variables} (b : Body) (it : Walked lines done (b ∷ rest) v) where
   abbrev before : List Role
   before = roles_up_to lines done
 
@@ -84,13 +85,13 @@ module _ {lines : List Line} (known : Known lines) (bytes : Bytes lines) {done r
         length-append (with_letters before b.items) (tails_of b.items),
       )
 
-  module _ {after : List ℕ} {n : ℕ} (taken_more : LettersTaken (map code_of b.items) letters taken after n) where
-    pub letters_taken : Letters (with_letters before b.items) after n
+  module _ {after : Variables} (taken_more : LettersTaken (map code_of b.items) v after) where
+    pub letters_taken : Letters (with_letters before b.items) after
     letters_taken =
-        subst (λ xs. Letters (with_letters before xs) after n)
+        subst (λ xs. Letters (with_letters before xs) after)
         (items_back (length (names_of lines)) b.items items_fine) (taken_more.letters before it.table)
 
-    pub walked_more : Walked lines (done ++ (b ∷ [])) rest after (n + (length b.items - 2))
+    pub walked_more : Walked lines (done ++ (b ∷ [])) rest (record { letters = after.letters; taken = after.taken + (length b.items - 2) })
     walked_more =
         record {
           all = whole;

@@ -1,16 +1,14 @@
 -- The items of a body as numbers: fine items are read back from theirs, which fit. Those that are kept are all, or the
 -- body alone takes more than 32 variables. Assumes nothing.
-use Rattle.grammar.proofs.Basics.{◌≡◌, refl, ◌∙◌, sym, ap, ap₂, List, [], ◌∷◌, map, List·Memᴰ·head, List·Memᴰ·tail, ℕ}
-use Rattle.grammar.proofs.Basics.{zero, suc, ◌<◌, ◌≤◌, ◌-◌, arith, length, take, length-map, length-take}
-use Rattle.grammar.proofs.Basics.{length-take-le}
-use native.Mathlib.Nat.{sub-zero}
+use Rattle.grammar.proofs.Basics.{◌≡◌, refl, ◌∙◌, ap, ap₂, List, [], ◌∷◌, map, List·Memᴰ·head, List·Memᴰ·tail, ℕ}
+use Rattle.grammar.proofs.Basics.{zero, suc, ◌<◌, ◌≤◌, arith, length, take, length-map, length-take}
 use lib.Seq.{take_all}
 use Rattle.abnf_jobs.specs.Bodies.{Item, named, letter, character}
 use Rattle.abnf_jobs.specs.Roles.{tails_of}
 use Rattle.abnf_jobs.proofs.EveryMember.{Every}
 use Rattle.abnf_jobs.proofs.FineItems.{Fine}
 use Rattle.abnf_jobs.proofs.VariablesOnce.{tails_long}
-use Rattle.bodies.specs.Items.{code_of, item_from_lem, Filled}
+use Rattle.bodies.specs.Items.{code_of, item_from_lem}
 use Rattle.text_symbols.specs.Keys.{ItemFits, ItemsFit}
 use Rattle.text_symbols.proofs.ItemNumbers.{of_character, of_letter, of_name}
 
@@ -36,23 +34,21 @@ module _ (names : ℕ) where
     items_fit (x ∷ xs) fine zero l = item_fits x (fine x (List·Memᴰ·head refl))
     items_fit (x ∷ xs) fine (suc i) l = items_fit xs (λ y m. fine y (List·Memᴰ·tail m)) i (omega arith)
 
--- the part of a buffer that is lent
-pub part_long : {items : List ℕ} {n : ℕ} → Filled items n → length (take (n - 0) items) ≡ n
-part_long {items} {n} filled = rw (sub-zero n) (length-take-le n items (omega (arith, filled)))
+module _ {items : List ℕ} (xs : List Item) (kept : items ≡ take 35 (map code_of xs)) where
+  kept_count : length items ≡ length (take 35 (map code_of xs))
+  kept_count = ap length kept
 
-module _ {items : List ℕ} {n : ℕ} (xs : List Item) (filled : Filled items n)
-    (kept : take n items ≡ take 35 (map code_of xs)) where
-  kept_count : length (take 35 (map code_of xs)) ≡ n
-  kept_count = ap length (sym kept) ∙ length-take-le n items (omega (arith, filled.size, filled.few))
+  pub kept_few : length items ≤ 35
+  kept_few = omega (arith, kept_count, length-take 35 (map code_of xs))
 
-  pub kept_too_many : n ≡ 35 → 32 < length (tails_of xs)
+  pub kept_too_many : length items ≡ 35 → 32 < length (tails_of xs)
   kept_too_many e =
       omega (arith, kept_count, length-take 35 (map code_of xs), length-map xs code_of, tails_long xs)
 
-  module _ (fewer : n < 35) where
-    pub kept_all : take n items ≡ map code_of xs
+  module _ (fewer : length items < 35) where
+    pub kept_all : items ≡ map code_of xs
     kept_all =
         kept ∙ take_all 35 (map code_of xs) (omega (arith, kept_count, length-take 35 (map code_of xs)))
 
-    pub kept_long : n ≡ length xs
+    pub kept_long : length items ≡ length xs
     kept_long = omega (arith, kept_count, length-take 35 (map code_of xs), length-map xs code_of)

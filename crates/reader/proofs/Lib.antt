@@ -8,6 +8,5 @@ pub mod CountedBodies
 pub mod OrderedRules
 pub mod Outcomes
 pub mod WrittenText
-pub mod EmptyTable
 pub mod CountingText
 pub mod PuttingText

@@ -1,26 +1,25 @@
 -- The outcome of a call by its checks in their order: each that refuses decides it, and where all pass it is what is
 -- written. Assumes nothing.
-use Rattle.grammar.proofs.Basics.{◌≡◌, refl, ◌∙◌, ap, cond, cases, List, ℕ, ◌<◌, ◌≤◌, arith, eqb, ltb, length, eq-eqb}
+use Rattle.grammar.proofs.Basics.{◌≡◌, refl, ◌∙◌, ap, cond, cases, Bool, List, ℕ, ◌<◌, ◌≤◌, arith, eqb, ltb, length, eq-eqb}
 use Rattle.grammar.proofs.Basics.{ne_eqb, eqb-true, lt-ltb, le-ltb, ltb-true, ltb-false}
 use Rattle.grammar.specs.Counting.{count}
-use Rattle.job.specs.declared.Checked.{Checked}
+use Rattle.job.specs.Records.{Checked}
 use Rattle.job.specs.Records.{or_else}
 use Rattle.job.specs.Check.{short_buffer_lem, room_check}
-use Rattle.job.proofs.RecordChecks.{both_pass, check_passed_test}
 use Rattle.job.proofs.CallChecks.{long_enough}
+use Rattle.job.proofs.RecordChecks.{both_pass, check_passed_test}
 use Rattle.abnf.specs.declared.Edition.{Edition}
 use Rattle.abnf.specs.declared.Fault.TheVariants.{Nothing}
 use Rattle.abnf.specs.Text.{Line}
 use Rattle.abnf.specs.Reading.{fault_of, lines_of}
 use Rattle.abnf.specs.Meaning.{names_of}
-use Rattle.abnf_jobs.specs.declared.TextRead.{TextRead}
 use Rattle.abnf_jobs.specs.Names.{name_fault_of}
 use Rattle.abnf_jobs.specs.Bodies.{bodies_of}
 use Rattle.abnf_jobs.specs.Characters.{used_in, characters_used}
 use Rattle.abnf_jobs.specs.Roles.{roles_of}
 use Rattle.abnf_jobs.specs.Rules.{distinct_rules, records_of_lines}
 use Rattle.abnf_jobs.specs.Operation.{ReadOutcome, text_check_lem, fault_check_lem, numbers_check_lem, rules_check_lem, lines_check}
-use Rattle.abnf_jobs.specs.Operation.{read_check, read_leaves, refusal, read_refused, read_of}
+use Rattle.abnf_jobs.specs.Operation.{read_check, read_refused, read_of}
 use Rattle.abnf_jobs.proofs.Success.{no_fault}
 use Rattle.abnf_jobs.proofs.UsedCharacters.{used_long}
 use Rattle.text_symbols.specs.Marks.{Marked, marked}
@@ -40,10 +39,9 @@ pub passed_first : (c d : Checked) → c.number ≡ 0 → or_else c d ≡ d
 passed_first c d z = rw (eq-eqb c.number 0 z)
 
 -- a call that a check refuses
-pub refused_call : (c check : Checked) (written : ReadOutcome) (map job : List ℕ) (r : TextRead) → check ≡ c →
-    (c.number ≡ 0 → ⊥) → r ≡ refusal c →
-    read_leaves r map job ≡ cond (eqb check.number 0) written (read_refused check map job)
-refused_call c check written map job r is n e = rw (e, is, ne_eqb c.number 0 n)
+pub refused_call : (c check : Checked) (written : ReadOutcome) (map job : List ℕ) → check ≡ c →
+    (c.number ≡ 0 → ⊥) → read_refused c map job ≡ cond (eqb check.number 0) written (read_refused check map job)
+refused_call c check written map job is n = rw (is, ne_eqb c.number 0 n)
 
 module _ (lines : List Line) (map job : List ℕ) where
   abbrev pub numbers : Checked
@@ -57,11 +55,10 @@ module _ (lines : List Line) (map job : List ℕ) where
   unfolding lines_check
   checked_apart = refl
 
-  numbers_refused : (c : Checked) (r : TextRead) → c ≡ numbers → (c.number ≡ 0 → ⊥) → r ≡ refusal c →
-      read_leaves r map job ≡ lines_outcome lines map job
-  numbers_refused c r is n answer =
-      refused_call c (lines_check lines (length job)) _ map job r
-      (checked_apart ∙ rw (← is) (refused_first c last_checks n)) n answer
+  numbers_refused : (c : Checked) → c ≡ numbers → (c.number ≡ 0 → ⊥) → read_refused c map job ≡ lines_outcome lines map job
+  numbers_refused c is n =
+      refused_call c (lines_check lines (length job)) _ map job
+      (checked_apart ∙ rw (← is) (refused_first c last_checks n)) n
 
   -- more variables than there are numbers
   too_many_variables : (n m : ℕ) → 32 < n → 32 < length (roles_of lines) → numbers_check_lem n m ≡ numbers
@@ -79,7 +76,7 @@ module _ (lines : List Line) (map job : List ℕ) where
       (λ t. absurd (refuses (rw t)))
 
   -- what the bodies need
-  module _ {n characters : ℕ} {used : List ℕ} (needs : Needs lines n used)
+  module _ {n characters : ℕ} {used : List Bool} (needs : Needs lines n used)
       (counted : characters ≡ count (marked used) 256) (c : Checked) (is : c ≡ numbers_check_lem n characters) where
     numbers_are : c ≡ numbers
     numbers_are =
@@ -95,9 +92,8 @@ module _ (lines : List Line) (map job : List ℕ) where
           used_long (used_in (bodies_of lines)) 256,
         ))
 
-    pub needs_refused : (r : TextRead) → (c.number ≡ 0 → ⊥) → r ≡ refusal c →
-        read_leaves r map job ≡ lines_outcome lines map job
-    needs_refused r = numbers_refused c r numbers_are
+    pub needs_refused : (c.number ≡ 0 → ⊥) → read_refused c map job ≡ lines_outcome lines map job
+    needs_refused = numbers_refused c numbers_are
 
     module _ (z : c.number ≡ 0) where
       within : (length (roles_of lines) ≤ 32) × (length (characters_used lines) ≤ 32)
@@ -130,15 +126,13 @@ module _ (e : Edition) (text map job : List ℕ) where
       ∙ or_else_apart ten (or_else two (fault_check_lem 16 (fault_of e text))) rest_checks
 
   module _ (c : Checked) (is : c ≡ text_checks) where
-    pub text_refused : (r : TextRead) → (c.number ≡ 0 → ⊥) → r ≡ refusal c →
-        read_leaves r map job ≡ read_of e text map job
+    pub text_refused : (c.number ≡ 0 → ⊥) → read_refused c map job ≡ read_of e text map job
     unfolding read_of
-    text_refused r n answer =
-        refused_call c (read_check e text map job) _ map job r
-        (checks_apart ∙ rw (← is) (refused_first c rest_checks n)) n answer
+    text_refused n =
+        refused_call c (read_check e text map job) _ map job
+        (checks_apart ∙ rw (← is) (refused_first c rest_checks n)) n
 
-    pub text_passed : c.number ≡ 0 →
-        (length text ≤ 16384) × (fault_of e text ≡ Nothing) × (32 ≤ length map)
+    pub text_passed : c.number ≡ 0 → (length text ≤ 16384) × (fault_of e text ≡ Nothing) × (32 ≤ length map)
     text_passed z =
         let (ten, z) = both_pass (short_buffer_lem (length map) 32 3) _ (rw is at z) in
         let (two, z) = both_pass (text_check_lem (length text)) _ z in
@@ -164,11 +158,10 @@ module _ (e : Edition) (text map job : List ℕ) where
           rw (t, only) (names_decide (lines_of e text) map job n counted (rw only at refuses)))
           (λ t. rw (is, t))
 
-      pub names_refused : (r : TextRead) → (c.number ≡ 0 → ⊥) → r ≡ refusal c →
-          read_leaves r map job ≡ read_of e text map job
+      pub names_refused : (c.number ≡ 0 → ⊥) → read_refused c map job ≡ read_of e text map job
       unfolding read_of
-      names_refused r refuses answer =
-          refused_call c (read_check e text map job) _ map job r (rest_decides ∙ names_check_lem refuses) refuses answer
+      names_refused refuses =
+          refused_call c (read_check e text map job) _ map job (rest_decides ∙ names_check_lem refuses) refuses
 
       pub names_passed : c.number ≡ 0 → (name_fault_of e text ≡ Nothing) × (n ≤ 32)
       names_passed z =
@@ -181,7 +174,7 @@ module _ (e : Edition) (text map job : List ℕ) where
     by_lines names is = is ∙ rw (rest_decides, names)
 
 -- the marks of a text that fits are few
-pub marks_few : {lines : List Line} {used : List ℕ} → Fits lines → Marked (used_in (bodies_of lines)) used →
+pub marks_few : {lines : List Line} {used : List Bool} → Fits lines → Marked (used_in (bodies_of lines)) used →
     count (marked used) 256 ≤ 32
 marks_few {lines} fits marks =
     omega (arith, marks_counted marks, used_long (used_in (bodies_of lines)) 256, fits.characters)

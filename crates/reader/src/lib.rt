@@ -3,15 +3,3 @@
 
 pub mod operation;
 pub mod walk;
-
-// The bytes, and the letters without regard to case.
-pub const BYTES: usize = 256;
-
-pub const LETTERS: usize = 26;
-
-// The rules of a body are put: how many rules there are then, and how many variables are taken.
-#[derive(Clone, Copy)]
-pub struct Put {
-    pub rules: usize,
-    pub taken: usize,
-}

@@ -9,11 +9,7 @@ pub fn clear_front(table: &mut [u8], n: usize)
     requires long { n ≤ length table.old }
     ensures cleared { table.new ≡ cleared n table.old }
 {
-    let mut i = 0;
-    while i < n {
-        table[i] = 0;
-        i += 1;
-    }
+    table[..n].fill(0);
 }
 
 // Makes the first 65,536 bytes 0.

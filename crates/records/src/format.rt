@@ -1,9 +1,10 @@
 // The record format: the table of kinds and fields, reading a record and writing one.
 ghost use Rattle.std.specs.Prelude.{◌≡◌, [], ◌∷◌, ◌++◌, ◌+◌, ◌*◌, ◌<◌, ◌≤◌, length, get_or, take, drop};
-ghost use Rattle.job.specs.Format.{field_classes, row_of, class_at, in_class_lem, bad_field_lem, same, is_rule_lem};
+ghost use Rattle.job.specs.Format.{field_classes, row_of, class_at, in_class_lem, bad_field_lem, same, has, is_rule_lem};
+ghost use Rattle.job.specs.Kinds.{kind_row, field_number};
 ghost use Rattle.job.specs.Format.{records_of, no_record, bytes_of};
 
-use job::{FieldClass, JobRecord};
+use job::{FieldClass, JobRecord, Kind};
 
 // The classes of the three fields, a row for each kind: E, U, P, T, I, F, S.
 const FIELD_CLASSES: [[FieldClass; 3]; 7] = [
@@ -16,28 +17,12 @@ const FIELD_CLASSES: [[FieldClass; 3]; 7] = [
     [FieldClass::Variable, FieldClass::Zero, FieldClass::Zero],
 ];
 
-// The row of a kind byte in the table, 7 for an unknown one.
-pub fn kind_row(kind: u8) -> usize
-    ensures row { result ≡ row_of kind }
+// The class of a field of a kind.
+pub fn field_class(kind: Kind, field: usize) -> FieldClass
+    requires within { field < 3 }
+    ensures class { result ≡ class_at field_classes (kind_row kind) field }
 {
-    match kind {
-        b'E' => 0,
-        b'U' => 1,
-        b'P' => 2,
-        b'T' => 3,
-        b'I' => 4,
-        b'F' => 5,
-        b'S' => 6,
-        _ => 7,
-    }
-}
-
-// The class of a field in a row of the table.
-pub fn field_class(row: usize, field: usize) -> FieldClass
-    requires within { (row < 7) × (field < 3) }
-    ensures class { result ≡ class_at field_classes row field }
-{
-    FIELD_CLASSES[row][field]
+    FIELD_CLASSES[kind as usize][field]
 }
 
 // Whether a byte is of a class.
@@ -52,41 +37,36 @@ pub fn in_class(class: FieldClass, value: u8) -> bool
     }
 }
 
-// Whether a byte is of the class of a field in a row of the table.
-fn field_fits(row: usize, field: usize, value: u8) -> bool
-    requires within { (row < 7) × (field < 3) }
-    ensures says { result ≡ in_class_lem (class_at field_classes row field) value }
+// Whether a byte is of the class of a field of a kind.
+fn field_fits(kind: Kind, field: usize, value: u8) -> bool
+    requires within { field < 3 }
+    ensures says { result ≡ in_class_lem (class_at field_classes (kind_row kind) field) value }
 {
-    in_class(field_class(row, field), value)
+    in_class(field_class(kind, field), value)
 }
 
-// The first field, 1 to 3, of a record of a known kind that is not of its class; 0 for none.
-pub fn bad_field(r: JobRecord) -> usize
-    requires known { row_of r.kind < 7 }
-    ensures field { result ≡ bad_field_lem field_classes r }
+// Which of the three fields of a record of a kind is the first that is not of its class.
+pub fn bad_field(kind: Kind, r: JobRecord) -> Option<usize>
+    requires kind { row_of r.kind ≡ kind_row kind }
+    ensures field { field_number result ≡ bad_field_lem field_classes r }
 {
-    let row = kind_row(r.kind);
-    if !field_fits(row, 0, r.first) {
-        return 1;
+    if !field_fits(kind, 0, r.first) {
+        return Some(0);
     }
-    if !field_fits(row, 1, r.second) {
-        return 2;
+    if !field_fits(kind, 1, r.second) {
+        return Some(1);
     }
-    if !field_fits(row, 2, r.third) {
-        return 3;
+    if !field_fits(kind, 2, r.third) {
+        return Some(2);
     }
-    0
+    None
 }
 
 // Whether a kind byte is that of a rule.
 pub fn is_rule(r: JobRecord) -> bool
     ensures says { result ≡ is_rule_lem r }
 {
-    let kind = r.kind;
-    match kind {
-        b'E' | b'U' | b'P' => true,
-        _ => false,
-    }
+    matches!(r.kind, b'E' | b'U' | b'P')
 }
 
 // Record i of a job.
@@ -103,22 +83,25 @@ pub fn record_at(job: &[u8], i: usize) -> JobRecord
     }
 }
 
-// Whether record i of a job is the four bytes of r. Field 2 takes the most values, so it is compared first.
+// Whether record i of a job is the four bytes of r.
 pub fn alike(job: &[u8], i: usize, r: JobRecord) -> bool
     requires within { 4 * i + 4 ≤ length job.now }
     ensures says { result ≡ same (get_or (records_of job.now) i no_record) r }
 {
-    let at = 4 * i;
-    if job[at + 2] != r.second {
-        return false;
+    record_at(job, i) == r
+}
+
+// Whether a record stands among the first n of a job.
+pub fn is_among(job: &[u8], n: usize, r: JobRecord) -> bool
+    requires within { n ≤ length (records_of job.now) }
+    ensures says { result ≡ has (take n (records_of job.now)) r }
+{
+    for i in 0..n {
+        if alike(job, i, r) {
+            return true;
+        }
     }
-    if job[at + 3] != r.third {
-        return false;
-    }
-    if job[at + 1] != r.first {
-        return false;
-    }
-    job[at] == r.kind
+    false
 }
 
 // Writes a record as record i of a buffer.

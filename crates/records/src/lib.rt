@@ -2,20 +2,8 @@
 // table.
 #![tactic(auto)]
 
-ghost use Rattle.std.specs.Prelude.{◌≡◌};
-ghost use Rattle.grammar.specs.Counting.{one_if_lem};
-
 pub mod clear;
 pub mod format;
+pub mod keys;
 pub mod rules;
 pub mod write;
-
-// 1 for true, 0 for false.
-pub fn one_if(yes: bool) -> u8
-    ensures number { result ≡ one_if_lem yes }
-{
-    if yes {
-        return 1;
-    }
-    0
-}

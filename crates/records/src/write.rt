@@ -1,28 +1,26 @@
 // Writing records to the front of a buffer: room for them, and a start symbol with its rules.
 ghost use Rattle.std.specs.Prelude.{◌≡◌, map, ◌∷◌, ◌++◌, ◌+◌, ◌*◌, ◌≤◌, length, drop};
 ghost use Rattle.job.specs.Format.{bytes_of};
+ghost use Rattle.job.specs.Refusals.{checked_of};
 ghost use Rattle.job.specs.Check.{room_check};
 ghost use Rattle.job.specs.Job.{start_record};
 ghost use Rattle.job.specs.Inside.Keys.{record_of_key};
 
 use crate::{format, rules};
-use job::{Checked, JobRecord};
+use job::{Cause, Checked, JobRecord, Refusal};
 
 // 13 where a buffer has no room for so many records.
 pub fn room_check(records: usize, room: usize) -> Checked
     requires few { records ≤ 65536 }
-    ensures checked { result ≡ room_check records room }
+    ensures checked { checked_of result ≡ room_check records room }
 {
     if room < 4 * records {
-        return Checked {
-            number: 13,
+        return Err(Refusal {
+            cause: Cause::NoRoom,
             place: records,
-        };
+        });
     }
-    Checked {
-        number: 0,
-        place: 0,
-    }
+    Ok(())
 }
 
 // Writes S and, behind it, the rules of some sort keys.
@@ -38,9 +36,7 @@ pub fn write_grammar(start: u8, keys: &[u32], out: &mut [u8])
         third: 0,
     };
     format::put_record(out, 0, s);
-    let mut k = 0;
-    while k < keys.len() {
-        format::put_record(out, k + 1, rules::record_of(keys[k]));
-        k += 1;
+    for (k, key) in keys.iter().enumerate() {
+        format::put_record(out, k + 1, rules::record_of(*key));
     }
 }

@@ -1,10 +1,10 @@
 -- What the report leaves, by whether it is refused. Assumes nothing.
 use Rattle.grammar.proofs.Basics.{◌≡◌, ◌∙◌, ap, List, ◌∷◌, [], ℕ, eq-eqb, ne_eqb}
-use Rattle.job.specs.declared.Checked.{Checked}
+use Rattle.job.specs.Records.{Checked}
 use Rattle.job.specs.Job.{job_of}
 use Rattle.machine.specs.Table.{Lent}
 use Rattle.machine.specs.Operations.{StartOutcome, AdvanceOutcome, start_of, advance_of}
-use Rattle.forms.specs.declared.Asked.{Asked}
+use Rattle.forms.specs.Answers.{Asked}
 use Rattle.forms.specs.Operations.{ask_of}
 use Rattle.verdicts.specs.Operation.{VerdictsOutcome, verdicts_of}
 use Rattle.printing.specs.declared.Report.{Report}

@@ -2,7 +2,7 @@
 -- each call pass as those of the report do. Assumes nothing.
 use Rattle.grammar.proofs.Basics.{◌≡◌, refl, ◌∙◌, sym, ap, true, false, Bool, List, ◌∷◌, [], ℕ, zero, suc, ◌≤◌, arith, length}
 use Rattle.grammar.proofs.Basics.{eq-eqb, le-ltb}
-use Rattle.job.specs.declared.Checked.{Checked}
+use Rattle.job.specs.Records.{Checked}
 use Rattle.job.specs.Accepted.{Accepted}
 use Rattle.job.specs.Job.{field_of, job_of}
 use Rattle.job.proofs.Accepted.{accepted_check}

@@ -1,11 +1,11 @@
 -- The whole outcome of the report, for every input: the answer, table and reasons, and the codes. Assumes nothing.
 use Rattle.std.specs.Prelude.{ℕ, true, false, cond, List, [], ◌∷◌, eqb}
-use Rattle.job.specs.declared.Checked.{Checked}
+use Rattle.job.specs.Records.{Checked}
 use Rattle.job.specs.Check.{job_check, short_table, short_reasons, short_codes, or_else}
 use Rattle.job.specs.Job.{job_of}
 use Rattle.machine.specs.Table.{Lent, lent_of}
 use Rattle.machine.specs.Operations.{StartOutcome, AdvanceOutcome, start_of, advance_of}
-use Rattle.forms.specs.declared.Asked.{Asked}
+use Rattle.forms.specs.Answers.{Asked}
 use Rattle.forms.specs.Operations.{ask_of}
 use Rattle.verdicts.specs.Operation.{VerdictsOutcome, verdicts_of}
 use Rattle.printing.specs.declared.Report.{Report}

@@ -2,15 +2,15 @@
 use Rattle.std.specs.Prelude.{ℕ, List, [], ◌∷◌}
 use Rattle.grammar.specs.Counting.{one_if_lem}
 use Rattle.job.specs.declared.Part.{Part}
-use Rattle.machine.specs.declared.Started.{Started}
-use Rattle.machine.specs.declared.Advanced.{Advanced}
-use Rattle.forms.specs.declared.Asked.{Asked}
-use Rattle.forms.specs.declared.Explained.{Explained}
-use Rattle.verdicts.specs.declared.Verdicts.{Verdicts}
-use Rattle.long_jobs.specs.declared.Binarized.{Binarized}
-use Rattle.copies.specs.declared.Cleaned.{Cleaned}
-use Rattle.abnf_jobs.specs.declared.TextRead.{TextRead}
-use Rattle.bit_machine.specs.declared.Counted.{Counted}
+use Rattle.machine.specs.Answers.{Started}
+use Rattle.machine.specs.Answers.{Advanced}
+use Rattle.forms.specs.Answers.{Asked}
+use Rattle.forms.specs.Answers.{Explained}
+use Rattle.verdicts.specs.Answers.{Verdicts}
+use Rattle.long_jobs.specs.Operation.{Binarized}
+use Rattle.copies.specs.Answers.{Cleaned}
+use Rattle.abnf_jobs.specs.Answers.{TextRead}
+use Rattle.bit_machine.specs.Answers.{Counted}
 
 abbrev pub start_numbers : Started → List ℕ
 start_numbers a = a.number ∷ a.place ∷ a.states ∷ []

@@ -1,6 +1,6 @@
 // The C interface: each operation with its answer as a fixed array that is always written whole.
 // include/ropeclover.h is its manual.
-ghost use Rattle.std.specs.Prelude.{◌≡◌, ◌∷◌, [], length};
+ghost use Rattle.std.specs.Prelude.{◌≡◌};
 ghost use Rattle.job.specs.Show.{shown_part_lem};
 ghost use Rattle.machine.specs.Table.{lent_of};
 ghost use Rattle.machine.specs.Operations.{start_of, advance_of};
@@ -14,74 +14,85 @@ ghost use Rattle.abnf_jobs.specs.Operation.{read_of};
 ghost use Rattle.bit_machine.specs.Operations.{start_bits_of, advance_bits_of, done_count_of};
 ghost use Rattle.ropeclover.specs.Exports.{verdicts_numbers, show_numbers, binarize_numbers, clean_numbers};
 ghost use Rattle.ropeclover.specs.Exports.{count_numbers, read_numbers};
+ghost use Rattle.machine.specs.Answers.{started_of, advanced_of};
+ghost use Rattle.forms.specs.Answers.{asked_of, explained_of};
+ghost use Rattle.verdicts.specs.Answers.{verdicts_answer};
+ghost use Rattle.copies.specs.Answers.{cleaned_of};
+ghost use Rattle.abnf_jobs.specs.Answers.{text_read_of};
+ghost use Rattle.bit_machine.specs.Answers.{counted_of};
+ghost use Rattle.long_jobs.specs.Operation.{binarized_of};
 
-use forms::Asked;
-use machine::Advanced;
+use abnf_jobs::Counts;
+use job::Refusal;
+use machine::Ended;
+use verdicts::Judged;
 
-// The numbers of an answer.
-fn write2(answer: &mut [u64], a: u64, b: u64)
-    requires long { length answer.old ≡ 2 }
-    ensures written { answer.new ≡ a ∷ b ∷ [] }
+// The numbers of an answer, all of which are written: of a refusal its number and place, and zeros; else 0, 0 and the
+// values. Those of start, binarize and clean have one value.
+fn value_numbers(value: Result<usize, Refusal>) -> [u64; 3]
+    ensures started { result ≡ start_numbers (started_of value) }
+    ensures binarized { result ≡ binarize_numbers (binarized_of value) }
+    ensures cleaned { result ≡ clean_numbers (cleaned_of value) }
 {
-    answer[0] = a;
-    answer[1] = b;
+    match value {
+        Ok(value) => [0, 0, value as u64],
+        Err(refusal) => [refusal.cause.number(), refusal.place as u64, 0],
+    }
 }
 
-fn write3(answer: &mut [u64], a: u64, b: u64, c: u64)
-    requires long { length answer.old ≡ 3 }
-    ensures written { answer.new ≡ a ∷ b ∷ c ∷ [] }
+fn advanced_numbers(ended: Result<Ended, Refusal>) -> [u64; 5]
+    ensures advanced { result ≡ advance_numbers (advanced_of ended) }
 {
-    answer[0] = a;
-    answer[1] = b;
-    answer[2] = c;
+    match ended {
+        Ok(ended) => [0, 0, u64::from(ended.finished), ended.steps, ended.meetings],
+        Err(refusal) => [refusal.cause.number(), refusal.place as u64, 0, 0, 0],
+    }
 }
 
-fn write4(answer: &mut [u64], a: u64, b: u64, c: u64, d: u64)
-    requires long { length answer.old ≡ 4 }
-    ensures written { answer.new ≡ a ∷ b ∷ c ∷ d ∷ [] }
+fn asked_numbers(accepted: Result<bool, Refusal>) -> [u64; 3]
+    ensures asked { result ≡ ask_numbers (asked_of accepted) }
 {
-    answer[0] = a;
-    answer[1] = b;
-    answer[2] = c;
-    answer[3] = d;
+    match accepted {
+        Ok(accepted) => [0, 0, u64::from(accepted)],
+        Err(refusal) => [refusal.cause.number(), refusal.place as u64, 0],
+    }
 }
 
-fn write5(answer: &mut [u64], a: u64, b: u64, c: u64, d: u64, e: u64)
-    requires long { length answer.old ≡ 5 }
-    ensures written { answer.new ≡ a ∷ b ∷ c ∷ d ∷ e ∷ [] }
+fn explained_numbers(records: Result<Option<usize>, Refusal>) -> [u64; 4]
+    ensures explained { result ≡ explain_numbers (explained_of records) }
 {
-    answer[0] = a;
-    answer[1] = b;
-    answer[2] = c;
-    answer[3] = d;
-    answer[4] = e;
+    match records {
+        Ok(Some(records)) => [0, 0, 1, records as u64],
+        Ok(None) => [0, 0, 0, 0],
+        Err(refusal) => [refusal.cause.number(), refusal.place as u64, 0, 0],
+    }
 }
 
-// The answer of advance, and that of ask, on either kind of table.
-fn write_advanced(answer: &mut [u64], r: Advanced)
-    requires long { length answer.old ≡ 5 }
-    ensures written { answer.new ≡ advance_numbers r }
+fn judged_numbers(judged: Result<Judged, Refusal>) -> [u64; 4]
+    ensures judged { result ≡ verdicts_numbers (verdicts_answer judged) }
 {
-    write5(
-        answer,
-        r.number as u64,
-        r.place as u64,
-        records::one_if(r.finished) as u64,
-        r.steps,
-        r.meetings,
-    );
+    match judged {
+        Ok(judged) => [0, 0, u64::from(judged.empty), u64::from(judged.growing)],
+        Err(refusal) => [refusal.cause.number(), refusal.place as u64, 0, 0],
+    }
 }
 
-fn write_asked(answer: &mut [u64], r: Asked)
-    requires long { length answer.old ≡ 3 }
-    ensures written { answer.new ≡ ask_numbers r }
+fn text_numbers(counts: Result<Counts, Refusal>) -> [u64; 4]
+    ensures read { result ≡ read_numbers (text_read_of counts) }
 {
-    write3(
-        answer,
-        r.number as u64,
-        r.place as u64,
-        records::one_if(r.accepted) as u64,
-    );
+    match counts {
+        Ok(counts) => [0, 0, counts.records as u64, counts.characters as u64],
+        Err(refusal) => [refusal.cause.number(), refusal.place as u64, 0, 0],
+    }
+}
+
+fn counted_numbers(count: Result<u64, Refusal>) -> [u64; 3]
+    ensures counted { result ≡ count_numbers (counted_of count) }
+{
+    match count {
+        Ok(count) => [0, 0, count],
+        Err(refusal) => [refusal.cause.number(), refusal.place as u64, 0],
+    }
 }
 
 #[unsafe(no_mangle)]
@@ -96,8 +107,7 @@ pub extern "C" fn ropeclover_start(
     ensures left { lent_of table.new reasons.new
         ≡ (start_of job.now (lent_of table.old reasons.old)).lent }
 {
-    let r = operations::start(job, table, reasons);
-    write3(answer, r.number as u64, r.place as u64, r.states as u64);
+    *answer = value_numbers(operations::start(job, table, reasons));
 }
 
 #[unsafe(no_mangle)]
@@ -114,8 +124,7 @@ pub extern "C" fn ropeclover_advance(
     ensures left { lent_of table.new reasons.new
         ≡ (advance_of job.now (lent_of table.old reasons.old) n).lent }
 {
-    let r = operations::advance(job, table, reasons, n);
-    write_advanced(answer, r);
+    *answer = advanced_numbers(operations::advance(job, table, reasons, n));
 }
 
 #[unsafe(no_mangle)]
@@ -123,8 +132,7 @@ pub extern "C" fn ropeclover_ask(job: &[u8], table: &[u8], form: &[u8], answer: 
     ensures answered { answer.new
         ≡ ask_numbers (ask_of job.now table.now form.now) }
 {
-    let r = operations::ask(job, table, form);
-    write_asked(answer, r);
+    *answer = asked_numbers(operations::ask(job, table, form));
 }
 
 #[unsafe(no_mangle)]
@@ -146,14 +154,7 @@ pub extern "C" fn ropeclover_explain(
         ≡ (explain_of job.now (lent_of table.old reasons.old)
         form.now listing.old).listing }
 {
-    let r = operations::explain(job, table, reasons, form, listing);
-    write4(
-        answer,
-        r.number as u64,
-        r.place as u64,
-        records::one_if(r.accepted) as u64,
-        r.records as u64,
-    );
+    *answer = explained_numbers(operations::explain(job, table, reasons, form, listing));
 }
 
 #[unsafe(no_mangle)]
@@ -170,14 +171,7 @@ pub extern "C" fn ropeclover_verdicts(
     ensures coded { codes.new
         ≡ (verdicts_of job.now table.old codes.old).codes }
 {
-    let r = operations::verdicts(job, table, codes);
-    write4(
-        answer,
-        r.number as u64,
-        r.place as u64,
-        records::one_if(r.empty) as u64,
-        records::one_if(r.growing) as u64,
-    );
+    *answer = judged_numbers(operations::verdicts(job, table, codes));
 }
 
 // Where the part that showing returns stands in the job, and how long it is.
@@ -187,7 +181,7 @@ pub extern "C" fn ropeclover_show(job: &[u8], answer: &mut [u64; 2])
 {
     let shown = operations::show_refused(job);
     let part = checks::show::shown_part(job);
-    write2(answer, part.offset as u64, shown.len() as u64);
+    *answer = [part.offset as u64, shown.len() as u64];
 }
 
 #[unsafe(no_mangle)]
@@ -196,8 +190,7 @@ pub extern "C" fn ropeclover_binarize(source: &[u8], job: &mut [u8], answer: &mu
         ≡ binarize_numbers (binarize_of source.now job.old).answer }
     ensures left { job.new ≡ (binarize_of source.now job.old).job }
 {
-    let r = operations::binarize(source, job);
-    write3(answer, r.number as u64, r.place as u64, r.records as u64);
+    *answer = value_numbers(operations::binarize(source, job));
 }
 
 #[unsafe(no_mangle)]
@@ -206,8 +199,7 @@ pub extern "C" fn ropeclover_clean(job: &[u8], out: &mut [u8], answer: &mut [u64
         ≡ clean_numbers (clean_of job.now out.old).answer }
     ensures left { out.new ≡ (clean_of job.now out.old).out }
 {
-    let r = operations::clean(job, out);
-    write3(answer, r.number as u64, r.place as u64, r.records as u64);
+    *answer = value_numbers(operations::clean(job, out));
 }
 
 #[unsafe(no_mangle)]
@@ -224,14 +216,7 @@ pub extern "C" fn ropeclover_read_abnf(
     ensures job { job.new
         ≡ (read_of Rfc5234 text.now map.old job.old).job }
 {
-    let r = operations::read_abnf(text, map, job);
-    write4(
-        answer,
-        r.number as u64,
-        r.place as u64,
-        r.records as u64,
-        r.characters as u64,
-    );
+    *answer = text_numbers(operations::read_abnf(text, map, job));
 }
 
 #[unsafe(no_mangle)]
@@ -246,8 +231,7 @@ pub extern "C" fn ropeclover_start_bits(
     ensures left { lent_of bits.new reasons.new
         ≡ (start_bits_of job.now (lent_of bits.old reasons.old)).lent }
 {
-    let r = operations::start_bits(job, bits, reasons);
-    write3(answer, r.number as u64, r.place as u64, r.states as u64);
+    *answer = value_numbers(operations::start_bits(job, bits, reasons));
 }
 
 #[unsafe(no_mangle)]
@@ -264,8 +248,7 @@ pub extern "C" fn ropeclover_advance_bits(
     ensures left { lent_of bits.new reasons.new
         ≡ (advance_bits_of job.now (lent_of bits.old reasons.old) n).lent }
 {
-    let r = operations::advance_bits(job, bits, reasons, n);
-    write_advanced(answer, r);
+    *answer = advanced_numbers(operations::advance_bits(job, bits, reasons, n));
 }
 
 #[unsafe(no_mangle)]
@@ -273,14 +256,12 @@ pub extern "C" fn ropeclover_ask_bits(job: &[u8], bits: &[u8], form: &[u8], answ
     ensures answered { answer.new
         ≡ ask_numbers (ask_bits_of job.now bits.now form.now) }
 {
-    let r = operations::ask_bits(job, bits, form);
-    write_asked(answer, r);
+    *answer = asked_numbers(operations::ask_bits(job, bits, form));
 }
 
 #[unsafe(no_mangle)]
 pub extern "C" fn ropeclover_done_count(bits: &[u8], answer: &mut [u64; 3])
     ensures answered { answer.new ≡ count_numbers (done_count_of bits.now) }
 {
-    let r = operations::done_count(bits);
-    write3(answer, r.number as u64, r.place as u64, r.count);
+    *answer = counted_numbers(operations::done_count(bits));
 }

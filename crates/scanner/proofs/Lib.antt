@@ -1,7 +1,5 @@
-pub mod ByteRanges
 pub mod Offsets
 pub mod Stretches
 pub mod Numbers
-pub mod FirstBytes
 pub mod PieceSizes
 pub mod Leaving

@@ -1,39 +1,20 @@
 -- The numbers of a value: digits and dots at an offset, and a number that is above FF stays so. Assumes nothing.
-use Rattle.grammar.proofs.Basics.{◌≡◌, refl, ◌∙◌, sym, true, false, Bool, ◌&&◌, ◌||◌, cond, true_and_false, cases}
-use Rattle.grammar.proofs.Basics.{List, [], ◌∷◌, ℕ, ◌<◌, ◌≤◌, ◌+◌, ◌-◌, ◌*◌, arith, eqb, leb, length, get_or, drop}
-use Rattle.grammar.proofs.Basics.{le-leb, lt-leb, eq-eqb, ne_eqb, leb-true, leb-false}
+use Rattle.grammar.proofs.Basics.{◌≡◌, refl, ◌∙◌, sym, true, false, ◌&&◌, ◌||◌, cond, true_and_false, cases}
+use Rattle.grammar.proofs.Basics.{List, [], ◌∷◌, ℕ, ◌<◌, ◌≤◌, ◌+◌, ◌*◌, arith, eqb, leb, length, get_or, drop}
+use Rattle.grammar.proofs.Basics.{le-leb, lt-leb, eq-eqb, ne_eqb, leb-true, leb-false, drop_of_length-le}
 use lib.Seq.{drop-drop}
-use Rattle.abnf.specs.Bytes.{is_digit_lem, is_hexdig, lower, digit_value_lem}
-use Rattle.abnf.specs.Pieces.{span, begins, range_after, is_range_lem, fit, values_from}
+use Rattle.abnf.specs.Bytes.{is_hexdig, digit_value_lem}
+use Rattle.abnf.specs.Pieces.{begins, range_after, is_range_lem, fit, values_from}
 use Rattle.scanner.specs.Parts.{part_of_lem, dotted_at}
-use Rattle.scanner.proofs.Offsets.{eqb_swap, part_here, part_empty}
-
--- the value of a digit by the tests of the code
-module _ (b : ℕ) (digit : Bool) (is : digit ≡ is_digit_lem b) where
-  pub decimal : digit ≡ true → b - 48 ≡ digit_value_lem b
-  decimal e = rw (sym is ∙ e)
-
-  module _ (e : digit ≡ false) (small : ℕ) (low : small ≡ lower b) where
-    pub letter : small - 87 ≡ digit_value_lem b
-    letter = rw (sym is ∙ e, ← low)
-
-    pub no_letter : small < 87 → 0 ≡ digit_value_lem b
-    no_letter h =
-        let z : 0 ≡ small - 87 = omega arith in
-        z ∙ letter
+use Rattle.std.specs.List.{prefix_len}
+use Rattle.scanner.proofs.Stretches.{span_prefix}
+use Rattle.scanner.proofs.Offsets.{eqb_swap, here, part_here, part_past}
 
 -- the value so far after one byte more
 abbrev pub pushed_by : ℕ → ℕ → ℕ
 pushed_by b v = cond (eqb b 46) 0 (16 * v + digit_value_lem b)
 
-module _ (v b : ℕ) where
-  pub dot : b ≡ 46 → 0 ≡ pushed_by b v
-  dot e = rw (eq-eqb b 46 e)
-
-  pub digit_more : (d : ℕ) → (b ≡ 46 → ⊥) → d ≡ digit_value_lem b → 16 * v + d ≡ pushed_by b v
-  digit_more d n e = rw (ne_eqb b 46 n, e)
-
--- a byte and the one after it
+-- a byte and the one after it, and a dash where digits end
 dotted_first : (s : List ℕ) → (begins is_hexdig s || (begins (eqb 46) s && begins is_hexdig (drop 1 s))) ≡ dotted_at s
 unfolding begins
 dotted_first [] = refl
@@ -44,17 +25,13 @@ unfolding begins
 range_first [] = refl
 range_first (b ∷ s) = rw (eqb_swap 45 b)
 
-pub dotted_here : (text : List ℕ) (at : ℕ) (digit dot after pair r : Bool) → digit ≡ begins is_hexdig (drop at text)
-    → dot ≡ begins (eqb 46) (drop at text) → after ≡ begins is_hexdig (drop (at + 1) text) → pair ≡ (dot && after)
-    → r ≡ (digit || pair) → r ≡ dotted_at (drop at text)
-dotted_here text at digit dot after pair r p q t u e =
-    e ∙ rw (u, p, q, t, ← drop-drop 1 at text) (dotted_first (drop at text))
+pub dotted_here : (text : List ℕ) (at : ℕ) → dotted_at (drop at text)
+    ≡ (begins is_hexdig (drop at text) || (begins (eqb 46) (drop at text) && begins is_hexdig (drop (at + 1) text)))
+dotted_here text at = sym (rw (← drop-drop 1 at text) (dotted_first (drop at text)))
 
-pub range_here : (text : List ℕ) (from end : ℕ) (dash digit r : Bool) → end ≡ from + span is_hexdig (drop from text)
-    → dash ≡ begins (eqb 45) (drop end text) → digit ≡ begins is_hexdig (drop (end + 1) text) → r ≡ (dash && digit)
-    → r ≡ is_range_lem (drop from text)
-range_here text from end dash digit r n p q e =
-    e ∙ rw (p, q, ← drop-drop 1 end text, n, drop-drop _ from text) (range_first _)
+pub range_here : (text : List ℕ) (end : ℕ) → end ≡ prefix_len is_hexdig text
+    → is_range_lem text ≡ (begins (eqb 45) (drop end text) && begins is_hexdig (drop (end + 1) text))
+range_here text end n = sym (rw (← drop-drop 1 end text, n, span_prefix) (range_first _))
 
 -- a value above FF stays so
 unfit : (v : ℕ) (s : List ℕ) → 255 < v → fit (values_from v s) ≡ false
@@ -78,30 +55,26 @@ module _ (text : List ℕ) (at to : ℕ) where
     unfolding values_from
     digit_here n d e = rw (part_here text at to h w, ne_eqb _ _ n, e)
 
-    pub fit_here : v ≤ 255 → (u : ℕ) → u ≡ pushed_by (get_or text at 0) v
-        → fit (values_from v (part_of_lem text at to)) ≡ fit (values_from u (part_of_lem text (at + 1) to))
+-- a walk over the bytes of numbers that has come to `at` with the value v: what is left fits just if all do
+module _ (s : List ℕ) (at v : ℕ) (small : v ≤ 255) (same : fit (values_from v (drop at s)) ≡ fit (values_from 0 s)) where
+  module _ (h : at < length s) (u : ℕ) (is : u ≡ pushed_by (get_or s at 0) v) where
+    fit_here : fit (values_from v (drop at s)) ≡ fit (values_from u (drop (at + 1) s))
     unfolding fit values_from
-    fit_here l u e =
-        cases (eqb (get_or text at 0) 46) (λ d. rw (part_here text at to h w, e, d, le-leb v 255 l))
-        (λ d. rw (part_here text at to h w, e, d))
+    fit_here =
+        cases (eqb (get_or s at 0) 46) (λ d. rw (here s at h, is, d, le-leb v 255 small)) (λ d. rw (here s at h, is, d))
 
--- a walk over the numbers between two offsets that has come to `at` with the value v: what is left says the same
+    pub fits_on : fit (values_from u (drop (at + 1) s)) ≡ fit (values_from 0 s)
+    fits_on = sym fit_here ∙ same
+
+    pub too_large : 255 < u → false ≡ fit (values_from 0 s)
+    too_large l = sym (unfit u _ l) ∙ fits_on
+
+  pub all_fit : length s ≤ at → true ≡ fit (values_from 0 s)
+  unfolding fit values_from
+  all_fit l = sym (rw (drop_of_length-le s l, le-leb v 255 small)) ∙ same
+
+-- a walk over the numbers between two offsets that has come to `at` with the value v
 module _ (text : List ℕ) (from to at : ℕ) (w : to ≤ length text) (v : ℕ) where
-  module _ (small : v ≤ 255)
-      (same : fit (values_from v (part_of_lem text at to)) ≡ fit (values_from 0 (part_of_lem text from to))) where
-    module _ (h : at < to) (u : ℕ) (is : u ≡ pushed_by (get_or text at 0) v) where
-      pub fits_on : fit (values_from u (part_of_lem text (at + 1) to)) ≡ fit (values_from 0 (part_of_lem text from to))
-      fits_on = sym (fit_here text at to h w v small u is) ∙ same
-
-      pub too_large : 255 < u → false ≡ fit (values_from 0 (part_of_lem text from to))
-      too_large l = sym (unfit u _ l) ∙ fits_on
-
-    pub all_fit : at ≤ to → to ≤ at → true ≡ fit (values_from 0 (part_of_lem text from to))
-    unfolding fit values_from
-    all_fit p q =
-        let e : at ≡ to = omega arith in
-        sym (rw (e, part_empty text to, le-leb v 255 small)) ∙ same
-
   module _ (same : values_from 0 (part_of_lem text from to) ≡ values_from v (part_of_lem text at to)) where
     module _ (h : at < to) where
       pub first_ends : get_or text at 0 ≡ 46
@@ -116,8 +89,6 @@ module _ (text : List ℕ) (from to at : ℕ) (w : to ≤ length text) (v : ℕ)
           → d ≡ digit_value_lem (get_or text at 0) → 16 * v + d ≤ 255
       first_small f n d e = fit_small _ _ (rw (first_on n d e) at f)
 
-    pub first_alone : at ≤ to → to ≤ at → values_from 0 (part_of_lem text from to) ≡ v ∷ []
+    pub first_alone : to ≤ at → values_from 0 (part_of_lem text from to) ≡ v ∷ []
     unfolding values_from
-    first_alone p q =
-        let e : at ≡ to = omega arith in
-        same ∙ rw (e, part_empty text to)
+    first_alone h = same ∙ rw (part_past text at to h)

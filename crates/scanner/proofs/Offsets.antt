@@ -34,10 +34,13 @@ module _ (text : List ℕ) (at : ℕ) where
         let n : to - at ≡ suc (to - (at + 1)) = omega arith in
         rw (here l, n)
 
-  pub part_empty : part_of_lem text at at ≡ []
-  part_empty =
-      let n : at - at ≡ 0 = omega arith in
+  pub part_past : (to : ℕ) → to ≤ at → part_of_lem text at to ≡ []
+  part_past to h =
+      let n : to - at ≡ 0 = omega arith in
       rw n
+
+  pub part_empty : part_of_lem text at at ≡ []
+  part_empty = part_past at (omega arith)
 
 -- a text that begins with a byte has one
 pub begins_long : (p : ℕ → Bool) (s : List ℕ) → begins p s ≡ true → 1 ≤ length s

@@ -1,6 +1,7 @@
 -- No piece goes past the end of its text, and the piece that begins at an offset. Assumes nothing.
-use Rattle.grammar.proofs.Basics.{◌≡◌, refl, ◌∙◌, sym, true, false, Bool, ◌&&◌, ◌||◌, not, cond, List, [], ◌∷◌, ℕ, ◌<◌}
-use Rattle.grammar.proofs.Basics.{◌≤◌, ◌+◌, suc, arith, eqb, length, get_or, take, drop, length-drop}
+use Rattle.grammar.proofs.Basics.{◌≡◌, refl, true, false, Bool, ◌&&◌, ◌||◌, not, cond, List, [], ◌∷◌, ℕ, ◌<◌}
+use Rattle.grammar.proofs.Basics.{◌≤◌, ◌+◌, ◌-◌, suc, arith, eqb, length, get_or, take, drop, length-drop}
+use Rattle.std.proofs.lemmas.List.{take_rest}
 use Rattle.abnf.specs.declared.Edition.{Edition}
 use Rattle.abnf.specs.declared.PieceKind.{PieceKind}
 use Rattle.abnf.specs.declared.PieceKind.TheVariants.{NamePiece, BlankPiece, CommentPiece}
@@ -8,7 +9,6 @@ use Rattle.abnf.specs.declared.Begun.{Begun}
 use Rattle.abnf.specs.Bytes.{is_alpha_lem, is_wsp_lem, is_hexdig, in_name, in_string, in_comment, is_x, is_s, is_i}
 use Rattle.abnf.specs.Pieces.{span, begins, dotted, is_range_lem, fit, values_from, piece, neither, quoted, value, prefixed}
 use Rattle.abnf.specs.Pieces.{percent, has_prefixes_lem, piece_of}
-use Rattle.scanner.specs.Parts.{sign_piece_lem}
 use Rattle.scanner.proofs.Offsets.{begins_long}
 use Rattle.scanner.proofs.Stretches.{span_counts, dotted_counts, count_within}
 
@@ -65,25 +65,11 @@ more_within e b s =
     (by_test (eqb b 34) (λ _. record { at_most = omega (arith, (quoted_within 0 s).at_most) })
     (by_test (eqb b 37) (λ _. percent_within e s) nothing)))))))
 
--- the piece at an offset, by the tests that the code makes of its first byte
-module _ (e : Edition) (text : List ℕ) (at : ℕ) (h : at < length text) (r : Begun) where
-  pub piece_within : r ≡ piece_of e (get_or text at 0) (drop (at + 1) text) → at + 1 + r.more ≤ length text
-  piece_within is =
-      rw is (omega (arith, rw length-drop at (more_within e (get_or text at 0) (drop (at + 1) text)).at_most))
+pub piece_within : (e : Edition) (text : List ℕ) (at : ℕ) → at < length text → (r : Begun)
+    → r ≡ piece_of e (get_or text at 0) (drop (at + 1) text) → at + 1 + r.more ≤ length text
+piece_within e text at h r is =
+    rw is (omega (arith, rw length-drop at (more_within e (get_or text at 0) (drop (at + 1) text)).at_most))
 
-  abbrev At-piece : Type 0
-  At-piece = (r ≡ piece_of e (get_or text at 0) (drop (at + 1) text)) × (at + 1 + r.more ≤ length text)
-
-  found : r ≡ piece_of e (get_or text at 0) (drop (at + 1) text) → At-piece
-  found is = (is, piece_within is)
-
-  module _ (alpha : Bool) (p : alpha ≡ is_alpha_lem (get_or text at 0)) where
-    pub name_at : alpha ≡ true → r ≡ piece NamePiece (span in_name (drop (at + 1) text)) → At-piece
-    name_at t q = found (q ∙ rw (sym p ∙ t))
-
-    module _ (f : alpha ≡ false) (wsp : Bool) (w : wsp ≡ is_wsp_lem (get_or text at 0)) where
-      pub blank_at : wsp ≡ true → r ≡ piece BlankPiece (span is_wsp_lem (drop (at + 1) text)) → At-piece
-      blank_at t q = found (q ∙ rw (sym p ∙ f, sym w ∙ t))
-
-      pub sign_at : wsp ≡ false → r ≡ sign_piece_lem e (get_or text at 0) (drop (at + 1) text) → At-piece
-      sign_at t q = found (q ∙ rw (sym p ∙ f, sym w ∙ t))
+pub piece_before : (e : Edition) (text : List ℕ) (at : ℕ) → at < length text → (r : Begun)
+    → r ≡ piece_of e (get_or text at 0) (take (length text - (at + 1)) (drop (at + 1) text)) → at + 1 + r.more ≤ length text
+piece_before e text at h r is = piece_within e text at h r (rw take_rest at is)

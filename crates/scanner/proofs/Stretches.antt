@@ -1,7 +1,9 @@
 -- Counting from an offset on while a test of what is left holds: the bytes of a class, the digits and dots of a value.
 -- Assumes nothing.
 use Rattle.grammar.proofs.Basics.{◌≡◌, refl, ◌∙◌, true, false, Bool, cond, List, [], ◌∷◌, ℕ, ◌<◌, ◌≤◌, ◌+◌, suc, arith}
-use Rattle.grammar.proofs.Basics.{length, drop, drop_of_length-le, cases, not, not-true, not-false}
+use Rattle.grammar.proofs.Basics.{length, ◌-◌, take, drop, drop_of_length-le, cases, not, not-true, not-false}
+use Rattle.std.specs.List.{prefix_len}
+use Rattle.std.proofs.lemmas.List.{take_rest}
 use Rattle.abnf.specs.Pieces.{span, begins, dotted}
 use Rattle.scanner.specs.Parts.{dotted_at}
 use Rattle.scanner.proofs.Offsets.{here}
@@ -27,8 +29,8 @@ module _ {test : List ℕ → Bool} {count : List ℕ → ℕ} (counts : Counts 
       (λ e. rw (counts.one b s, e) (omega arith))
 
   -- a walk that has come to an offset, and what is left to count comes to the whole
-  module _ (text : List ℕ) (from at : ℕ) (same : at + count (drop at text) ≡ from + count (drop from text)) where
-    pub at_the_end : length text ≤ at → at ≡ from + count (drop from text)
+  module _ (text : List ℕ) (at : ℕ) (same : at + count (drop at text) ≡ count text) where
+    pub at_the_end : length text ≤ at → at ≡ count text
     at_the_end h =
         let n : count (drop at text) ≡ 0 = rw (drop_of_length-le text h) counts.none in
         omega arith
@@ -37,12 +39,22 @@ module _ {test : List ℕ → Bool} {count : List ℕ → ℕ} (counts : Counts 
       unfolded : count (drop at text) ≡ cond goes (suc (count (drop (at + 1) text))) 0
       unfolded = rw (is, here text at h) (counts.one _ _)
 
-      pub stops : not goes ≡ true → at ≡ from + count (drop from text)
+      pub stops : not goes ≡ true → at ≡ count text
       stops e =
           let n : count (drop at text) ≡ 0 = unfolded ∙ rw (not-true goes e) in
           omega arith
 
-      pub goes_on : not goes ≡ false → at + 1 + count (drop (at + 1) text) ≡ from + count (drop from text)
+      pub goes_on : not goes ≡ false → at + 1 + count (drop (at + 1) text) ≡ count text
       goes_on e =
           let n : count (drop at text) ≡ suc (count (drop (at + 1) text)) = unfolded ∙ rw (not-false goes e) in
           omega arith
+
+-- the library counts a stretch by another name
+pub span_prefix : (p : ℕ → Bool) (s : List ℕ) → span p s ≡ prefix_len p s
+unfolding span
+span_prefix p [] = refl
+span_prefix p (b ∷ s) = cases (p b) (λ e. rw e (omega (arith, span_prefix p s))) (λ e. rw e)
+
+pub stretch_from : (p : ℕ → Bool) (text : List ℕ) (from n : ℕ) → n ≡ prefix_len p (take (length text - from) (drop from text))
+    → from + n ≡ from + span p (drop from text)
+stretch_from p text from n e = rw (span_prefix, e, take_rest)

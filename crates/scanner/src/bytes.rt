@@ -1,5 +1,6 @@
 // The classes of bytes in a text, and stretches of a class.
-ghost use Rattle.std.specs.Prelude.{◌≡◌, ◌&&◌, ◌||◌, ◌+◌, ◌≤◌, eqb, leb, length, drop};
+ghost use Rattle.std.specs.Prelude.{◌≡◌, ◌&&◌, ◌+◌, ◌≤◌, eqb, length, drop};
+ghost use Rattle.std.specs.List.{prefix_len};
 ghost use Rattle.abnf.specs.Bytes.{is_alpha_lem, is_digit_lem, is_wsp_lem, lower};
 ghost use Rattle.abnf.specs.Pieces.{span, begins};
 ghost use Rattle.scanner.specs.Classes.{test_of};
@@ -15,64 +16,32 @@ pub enum ByteClass {
     Hexdig,
 }
 
-// Whether a byte is one of a range.
-fn within(low: u8, b: u8, high: u8) -> bool
-    ensures says { result ≡ (leb low b && leb b high) }
-{
-    if b < low {
-        return false;
-    }
-    b <= high
-}
-
-// Tests joined without a branch where they are used.
-pub fn either(a: bool, b: bool) -> bool
-    ensures says { result ≡ (a || b) }
-{
-    if a {
-        return true;
-    }
-    b
-}
-
-pub fn both(a: bool, b: bool) -> bool
-    ensures says { result ≡ (a && b) }
-{
-    if a {
-        return b;
-    }
-    false
-}
-
 // Whether a byte is a letter.
 pub fn is_alpha(b: u8) -> bool
     ensures says { result ≡ is_alpha_lem b }
 {
-    either(within(b'A', b, b'Z'), within(b'a', b, b'z'))
+    b.is_ascii_alphabetic()
 }
 
 // Whether a byte is a decimal digit.
 pub fn is_digit(b: u8) -> bool
     ensures says { result ≡ is_digit_lem b }
 {
-    within(b'0', b, b'9')
+    b.is_ascii_digit()
 }
 
 // Whether a byte is a blank or a tab.
 pub fn is_wsp(b: u8) -> bool
     ensures says { result ≡ is_wsp_lem b }
 {
-    either(b == b' ', b == b'\t')
+    matches!(b, b' ' | b'\t')
 }
 
 // A letter as a small one; any other byte as it is.
 pub fn to_lower(b: u8) -> u8
     ensures lowered { result ≡ lower b }
 {
-    if within(b'A', b, b'Z') {
-        return b + 32;
-    }
-    b
+    b.to_ascii_lowercase()
 }
 
 // Whether a byte is of a class.
@@ -80,14 +49,11 @@ pub fn passes(class: ByteClass, b: u8) -> bool
     ensures says { result ≡ test_of class b }
 {
     match class {
-        ByteClass::Name => either(either(is_alpha(b), is_digit(b)), b == b'-'),
+        ByteClass::Name => b.is_ascii_alphanumeric() || b == b'-',
         ByteClass::Wsp => is_wsp(b),
-        ByteClass::Quotable => both(within(b' ', b, b'~'), b != b'"'),
-        ByteClass::Comment => either(is_wsp(b), within(b'!', b, b'~')),
-        ByteClass::Hexdig => either(
-            either(is_digit(b), within(b'A', b, b'F')),
-            within(b'a', b, b'f'),
-        ),
+        ByteClass::Quotable => matches!(b, b' '..=b'~') && b != b'"',
+        ByteClass::Comment => is_wsp(b) || b.is_ascii_graphic(),
+        ByteClass::Hexdig => b.is_ascii_hexdigit(),
     }
 }
 
@@ -95,10 +61,15 @@ pub fn passes(class: ByteClass, b: u8) -> bool
 pub fn class_at(class: ByteClass, text: &[u8], at: usize) -> bool
     ensures says { result ≡ begins (test_of class) (drop at text.now) }
 {
-    if at < text.len() {
-        return passes(class, text[at]);
-    }
-    false
+    at < text.len() && passes(class, text[at])
+}
+
+// How many bytes of a class a text begins with.
+pub(crate) fn run_length(class: ByteClass, text: &[u8]) -> usize
+    ensures length { result ≡ prefix_len (test_of class) text.now }
+    ensures within { result ≤ length text.now }
+{
+    text.iter().take_while(|b| passes(class, **b)).count()
 }
 
 // Where the bytes of a class end that begin at an offset.
@@ -107,22 +78,12 @@ pub fn run_end(class: ByteClass, text: &[u8], from: usize) -> usize
     ensures end { result ≡ from + span (test_of class) (drop from text.now) }
     ensures within { result ≤ length text.now }
 {
-    let mut at = from;
-    while at < text.len() {
-        if !class_at(class, text, at) {
-            return at;
-        }
-        at += 1;
-    }
-    at
+    from + run_length(class, &text[from..])
 }
 
 // Whether this byte stands at an offset.
 pub fn stands_at(b: u8, text: &[u8], at: usize) -> bool
     ensures says { result ≡ begins (eqb b) (drop at text.now) }
 {
-    if at < text.len() {
-        return b == text[at];
-    }
-    false
+    at < text.len() && b == text[at]
 }

@@ -2,7 +2,7 @@
 // the part, at the offsets that the calls before it gave.
 #![tactic(auto)]
 
-ghost use Rattle.std.specs.Prelude.{◌≡◌, true, ◌≤◌, ◌<◌, length};
+ghost use Rattle.std.specs.Prelude.{◌≡◌, Some, ◌≤◌, ◌<◌, length};
 ghost use Rattle.abnf.specs.declared.Stage.TheVariants.{LineStart};
 ghost use Rattle.abnf.specs.Reading.{fault_of};
 ghost use Rattle.scanner.specs.Parts.{part_of_lem};
@@ -17,9 +17,10 @@ fn edition_of(newer: bool) -> Edition
     ensures edition { result ≡ edition_of_lem newer }
 {
     if newer {
-        return Edition::Rfc7405;
+        Edition::Rfc7405
+    } else {
+        Edition::Rfc5234
     }
-    Edition::Rfc5234
 }
 
 // An offset, or the largest number for none.
@@ -42,8 +43,7 @@ pub extern "C" fn ropeclover_test_scan(newer: bool, text: &[u8]) -> u64
 
 // 0 for `=` and 1 for `=/`.
 fn mark_number(head: Head) -> u64 {
-    let mark = head.mark;
-    match mark {
+    match head.mark {
         Mark::Defines => 0,
         Mark::Adds => 1,
     }
@@ -56,15 +56,12 @@ pub extern "C" fn ropeclover_test_head(newer: bool, text: &[u8], at: usize, answ
     requires fine { FineAt (edition_of_lem newer) LineStart text.now at }
 {
     let head = cursor::rules::head_at(edition_of(newer), text, at);
-    answer[0] = head.end as u64;
-    answer[1] = mark_number(head);
-    answer[2] = head.body as u64;
+    *answer = [head.end as u64, mark_number(head), head.body as u64];
 }
 
 // 0 to 2 for an element, an alternative or a rule.
 fn after_number(part: ElementPart) -> u64 {
-    let after = part.after;
-    match after {
+    match part.after {
         After::ElementAfter => 0,
         After::AlternativeAfter => 1,
         After::RuleAfter => 2,
@@ -82,10 +79,12 @@ pub extern "C" fn ropeclover_test_element(
     requires element { ElementBegins (edition_of_lem newer) text.now at }
 {
     let part = cursor::rules::element_at(edition_of(newer), text, at);
-    answer[0] = part.literal as u64;
-    answer[1] = part.end as u64;
-    answer[2] = after_number(part);
-    answer[3] = part.next as u64;
+    *answer = [
+        u64::from(part.literal),
+        part.end as u64,
+        after_number(part),
+        part.next as u64,
+    ];
 }
 
 // The characters of the literal between two offsets.
@@ -100,11 +99,13 @@ pub extern "C" fn ropeclover_test_characters(
     requires literal { IsLiteral (part_of_lem text.now at end) }
 {
     let left = cursor::literal::characters_of(text, at, end);
-    answer[0] = left.at as u64;
-    answer[1] = left.end as u64;
-    answer[2] = left.hex as u64;
-    answer[3] = left.either as u64;
-    answer[4] = left.more as u64;
+    *answer = [
+        left.at.unwrap_or(left.end) as u64,
+        left.end as u64,
+        u64::from(left.hex),
+        u64::from(left.either),
+        u64::from(left.at.is_some()),
+    ];
 }
 
 // The first of the characters that are left: its byte, 1 where either case serves, and what is left after it.
@@ -117,18 +118,20 @@ pub extern "C" fn ropeclover_test_next_character(
     either: bool,
     answer: &mut [u64; 4],
 )
-    requires ready { Ready text.now (record { at = at; end = end; hex = hex; either = either; more = true }) }
+    requires ready { Ready text.now (record { at = Some at; end = end; hex = hex; either = either }) }
 {
     let left = Characters {
-        at,
+        at: Some(at),
         end,
         hex,
         either,
-        more: true,
     };
-    let taken = cursor::literal::next_character(text, left);
-    answer[0] = taken.character.byte as u64;
-    answer[1] = taken.character.either as u64;
-    answer[2] = taken.rest.at as u64;
-    answer[3] = taken.rest.more as u64;
+    if let Some(taken) = cursor::literal::next_character(text, left) {
+        *answer = [
+            u64::from(taken.character.byte),
+            u64::from(taken.character.either),
+            taken.rest.at.unwrap_or(end) as u64,
+            u64::from(taken.rest.at.is_some()),
+        ];
+    }
 }

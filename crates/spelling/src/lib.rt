@@ -2,6 +2,6 @@
 #![tactic(auto)]
 
 pub mod lines;
-pub mod pieces;
+pub mod page;
 pub mod records;
 pub mod theorems;

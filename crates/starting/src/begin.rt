@@ -12,8 +12,11 @@ ghost use Rattle.bit_machine.specs.Machine.{started_bits};
 ghost use Rattle.bit_machine.specs.Inside.Change.{Kept, NoneDone};
 
 use bits::{BITS_BYTES, table};
-use job::{JobRecord, RULES};
+use job::{Body, JobRecord};
 use transitions::{GIVEN_REASON, STATE_PLACES, STATE_REASONS};
+
+// Kept (5): `bits` and `reasons` are the two buffers that C lends. A struct of both, as `stepping::step::Memory`, would
+// add a clause on its parts to each of the four functions here, and take no parameter but one from each.
 
 // The transition of a T record is pending, and given if its label is a variable.
 fn give(bits: &mut [u8], reasons: &mut [u32], given: JobRecord)
@@ -30,10 +33,9 @@ fn give(bits: &mut [u8], reasons: &mut [u32], given: JobRecord)
     let x = given.second as usize;
     let r = given.third as usize;
     table::make_pending(bits, q * STATE_PLACES + x * 32 + r);
-    if !grammar::is_variable(given.second) {
-        return;
+    if grammar::is_variable(given.second) {
+        reasons[q * STATE_REASONS + x * 32 + r] = u32::from(GIVEN_REASON);
     }
-    reasons[q * STATE_REASONS + x * 32 + r] = GIVEN_REASON as u32;
 }
 
 // The transitions of all T records.
@@ -45,11 +47,8 @@ fn give_all(job: &[u8], bits: &mut [u8], reasons: &mut [u32])
         ≡ giving_all (records_of job.now) (lent_of (table_of_bits bits.old) reasons.old) }
     ensures kept { Kept bits.old bits.new }
 {
-    let count = job.len() / 4;
-    let mut i = 0;
-    while i < count {
+    for i in 0..job.len() / 4 {
         give(bits, reasons, records::format::record_at(job, i));
-        i += 1;
     }
 }
 
@@ -62,13 +61,12 @@ fn loop_all(bits: &mut [u8], reasons: &mut [u32], states: usize, key: u32, rank:
     ensures kept { Kept bits.old bits.new }
 {
     let rule = records::rules::unpack(key);
-    if rule.kind != b'E' {
+    let Body::Empty = rule.body else {
         return;
-    }
+    };
     let variable = rule.head as usize;
-    let reason = 1 + 32 * rank as u32;
-    let mut q = 0;
-    while q < states {
+    let reason = 1 + 32 * u32::from(rank);
+    for q in 0..states {
         let place = q * STATE_PLACES + variable * 32 + q;
         table::offer(
             bits,
@@ -77,7 +75,6 @@ fn loop_all(bits: &mut [u8], reasons: &mut [u32], states: usize, key: u32, rank:
             transitions::table::reason_place(place),
             reason,
         );
-        q += 1;
     }
 }
 
@@ -90,10 +87,8 @@ fn loop_rules(bits: &mut [u8], reasons: &mut [u32], states: usize, keys: &[u32])
         (lent_of (table_of_bits bits.old) reasons.old) }
     ensures kept { Kept bits.old bits.new }
 {
-    let mut k = 0;
-    while k < keys.len() {
-        loop_all(bits, reasons, states, keys[k], k as u16);
-        k += 1;
+    for (k, key) in keys.iter().enumerate() {
+        loop_all(bits, reasons, states, *key, k as u16);
     }
 }
 
@@ -106,11 +101,10 @@ pub fn begin(job: &[u8], bits: &mut [u8], reasons: &mut [u32]) -> usize
         ≡ started_bits (job_of job.now) (lent_of bits.old reasons.old) }
 {
     let states = lookup::facts::state_count(job);
-    let mut keys = [0u32; RULES];
-    let n = lookup::sorting::sorted_rules(job, &mut keys);
+    let keys = lookup::sorting::sorted_rules(job);
     records::clear::clear_front(bits, BITS_BYTES);
     transitions::clear::clear_reasons(reasons);
     give_all(job, bits, reasons);
-    loop_rules(bits, reasons, states, &keys[0..n]);
+    loop_rules(bits, reasons, states, keys.as_slice());
     states
 }

@@ -2,7 +2,7 @@
 // have useful symbols alone. Operations on a grammar build on it.
 #![tactic(auto)]
 
-pub mod flags;
 pub mod passes;
 pub mod rules;
+pub mod set;
 pub mod symbols;

@@ -1,84 +1,77 @@
 // The growth of a set of symbols by rules, in the direction asked for: passes over the rules until one adds nothing.
-// The set is held by flags, the rules are given by their sort keys.
-ghost use Rattle.std.specs.Prelude.{◌≡◌, Bool, ◌&&◌, ◌||◌, [], ◌∷◌, ℕ};
+// The rules are given by their sort keys.
+ghost use Rattle.std.specs.Prelude.{◌≡◌, Bool, ◌||◌, [], ◌∷◌, ℕ};
 ghost use Rattle.job.specs.Inside.Keys.{Keys, rules_of_keys, rule_from, RuleFits};
 ghost use Rattle.usefulness.specs.Sets.{stands_in, ready, added, round, grown};
-ghost use Rattle.usefulness.specs.Inside.Flags.{Flags, flagged, Bits, Raised};
+ghost use Rattle.usefulness.specs.Inside.Flags.{Flags, flagged};
 ghost use Rattle.usefulness.specs.Inside.Passes.{in_place};
 
-use crate::flags;
-use job::{RuleFields, SYMBOLS};
+use crate::set::SymbolSet;
+use job::Rule;
 use usefulness::Direction;
 
 // Whether a rule adds to the set.
-fn is_ready(rule: RuleFields, direction: Direction, flags: &[u8; SYMBOLS]) -> bool
+// Kept (7): what may not change: `ready`, `added`, `round` and `grown` of usefulness/specs take the direction as a value,
+// so that a closure for each step would need a law that names its direction all the same.
+fn is_ready(set: SymbolSet, rule: Rule, direction: Direction) -> bool
     requires rule { RuleFits rule }
-    ensures says { result ≡ ready direction (flagged flags.now) (rule_from rule) }
+    ensures says { result ≡ ready direction (flagged set.word) (rule_from rule) }
 {
     match direction {
-        Direction::Up => flags::body_all(rule, flags),
-        Direction::Down => flags[rule.head as usize] == 1,
-        Direction::Back => flags::body_any(rule, flags),
+        Direction::Up => set.has_body(rule),
+        Direction::Down => set.contains(rule.head),
+        Direction::Back => set.meets_body(rule),
     }
 }
 
-// Adds what a rule adds, if a test says so. Returns how many flags are new.
-fn raise_added(
-    flags: &mut [u8; SYMBOLS],
-    rule: RuleFields,
-    direction: Direction,
-    test: bool,
-) -> usize
+// The set with what a rule adds.
+fn with_added(set: SymbolSet, rule: Rule, direction: Direction) -> SymbolSet
     requires rule { RuleFits rule }
-    requires flags { Bits flags.old }
-    ensures raised { (set : ℕ → Bool) → Flags set flags.old →
-        Raised set (λ X. set X || (test && stands_in X (added direction (rule_from rule)))) flags.new result }
+    ensures flags { (s : ℕ → Bool) → Flags s set.word →
+        Flags (λ X. s X || stands_in X (added direction (rule_from rule))) result.word }
 {
     match direction {
-        Direction::Up => flags::raise(flags, rule.head, test),
-        Direction::Down => flags::raise_body(flags, rule, test),
-        Direction::Back => flags::raise(flags, rule.head, test),
+        Direction::Up | Direction::Back => set.with(rule.head),
+        Direction::Down => set.with_body(rule),
     }
 }
 
-// One rule. Returns how many flags are new.
-fn add(flags: &mut [u8; SYMBOLS], rule: RuleFields, direction: Direction) -> usize
+// One rule.
+fn add(set: SymbolSet, rule: Rule, direction: Direction) -> SymbolSet
     requires rule { RuleFits rule }
-    requires flags { Bits flags.old }
-    ensures raised { (set : ℕ → Bool) → Flags set flags.old →
-        Raised set (round direction (rule_from rule ∷ []) set) flags.new result }
+    ensures flags { (s : ℕ → Bool) → Flags s set.word →
+        Flags (round direction (rule_from rule ∷ []) s) result.word }
 {
-    let test = is_ready(rule, direction, flags);
-    raise_added(flags, rule, direction, test)
-}
-
-// One pass over the rules. Returns how many flags are new.
-fn pass(flags: &mut [u8; SYMBOLS], keys: &[u32], direction: Direction) -> usize
-    requires rules { Keys keys.now }
-    requires flags { Bits flags.old }
-    ensures raised { (set : ℕ → Bool) → Flags set flags.old →
-        Raised set (in_place direction (rules_of_keys keys.now) set) flags.new result }
-{
-    let mut new = 0;
-    let mut k = 0;
-    while k < keys.len() {
-        let rule = records::rules::unpack(keys[k]);
-        new += add(flags, rule, direction);
-        k += 1;
+    if is_ready(set, rule, direction) {
+        with_added(set, rule, direction)
+    } else {
+        set
     }
-    new
 }
 
-// Adds what the rules add, until nothing is new.
-pub fn grow(flags: &mut [u8; SYMBOLS], keys: &[u32], direction: Direction)
+// One pass over the rules.
+fn pass(mut set: SymbolSet, keys: &[u32], direction: Direction) -> SymbolSet
     requires rules { Keys keys.now }
-    requires flags { Bits flags.old }
-    ensures grown { (set : ℕ → Bool) → Flags set flags.old →
-        Flags (grown direction (rules_of_keys keys.now) set) flags.new }
+    ensures flags { (s : ℕ → Bool) → Flags s set.word →
+        Flags (in_place direction (rules_of_keys keys.now) s) result.word }
+{
+    for key in keys {
+        set = add(set, records::rules::unpack(*key), direction);
+    }
+    set
+}
+
+// The set with what the rules add, until nothing is new.
+pub fn grow(mut set: SymbolSet, keys: &[u32], direction: Direction) -> SymbolSet
+    requires rules { Keys keys.now }
+    ensures grown { (s : ℕ → Bool) → Flags s set.word →
+        Flags (grown direction (rules_of_keys keys.now) s) result.word }
 {
     loop {
-        if pass(flags, keys, direction) == 0 {
-            return;
+        let next = pass(set, keys, direction);
+        if next == set {
+            return set;
         }
+        set = next;
     }
 }

@@ -1,8 +1,7 @@
--- What an item is by its number, and the numbers of letters. Assumes nothing.
+-- What an item is by its number. Assumes nothing.
 use Rattle.grammar.proofs.Basics.{◌≡◌, ℕ, ◌<◌, ◌≤◌, ◌-◌, arith, lt-ltb, le-ltb}
 use Rattle.abnf_jobs.specs.Bodies.{named, letter, character}
 use Rattle.bodies.specs.Items.{item_from_lem}
-use Rattle.text_symbols.specs.Letters.{LetterFits}
 
 module _ (item : ℕ) where
   pub of_character : item < 256 → item_from_lem item ≡ character item
@@ -13,6 +12,3 @@ module _ (item : ℕ) where
 
   pub of_name : 511 < item → item_from_lem item ≡ named (item - 512)
   of_name l = rw (le-ltb item 256 (omega arith), le-ltb item 512 (omega arith))
-
-  pub letter_range : LetterFits item → 256 ≤ item → item ≤ 511 → (353 ≤ item) × (item ≤ 378)
-  letter_range fits from to = fits.letter from (omega arith)

@@ -1,3 +1,4 @@
 pub mod Letters
 pub mod Marks
 pub mod Keys
+pub mod Inside

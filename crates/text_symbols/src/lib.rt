@@ -3,5 +3,13 @@
 #![tactic(auto)]
 
 pub mod characters;
+mod items;
 pub mod letters;
 pub mod rules;
+pub mod symbols;
+
+// How many bytes there are.
+pub const BYTES: usize = 256;
+
+// How many letters there are, without regard to case.
+pub const LETTERS: usize = 26;

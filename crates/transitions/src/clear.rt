@@ -10,9 +10,5 @@ pub fn clear_reasons(reasons: &mut [u32])
     requires long { reasons_size ≤ length reasons.old }
     ensures cleared { reasons.new ≡ cleared reasons_size reasons.old }
 {
-    let mut i = 0;
-    while i < REASON_NUMBERS {
-        reasons[i] = 0;
-        i += 1;
-    }
+    reasons[..REASON_NUMBERS].fill(0);
 }

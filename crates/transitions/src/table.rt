@@ -13,11 +13,11 @@ pub fn is_pending(b: u8) -> bool
     b == 1
 }
 
-// Whether a byte says done: half of 2 and of 3 is 1.
+// Whether a byte says done.
 pub fn is_done(b: u8) -> bool
     ensures says { result ≡ is_done_lem b }
 {
-    b / 2 == 1
+    matches!(b, 2 | 3)
 }
 
 // Where the reason of the transition at a place stands.
@@ -32,5 +32,5 @@ pub fn reason_place(place: usize) -> usize
 pub fn entry(reason: u16, turn: u16) -> u32
     ensures entry { result ≡ entry_of reason turn }
 {
-    reason as u32 + TURN * turn as u32
+    u32::from(reason) + TURN * u32::from(turn)
 }

@@ -1,11 +1,10 @@
--- The symbols of rules, of one read by value too: all are symbols, and the tests of its body go through them by its
--- kind. Assumes nothing.
-use Rattle.grammar.proofs.Basics.{◌≡◌, true, false, Bool, ◌&&◌, cond, ◌||◌, or-false, and-true, List, ◌∷◌, ℕ, ◌<◌}
-use Rattle.grammar.proofs.Basics.{arith, eqb, cases}
+-- The symbols of rules, of one read by value too: all are symbols; and the tests of a body by its length. Assumes
+-- nothing.
+use Rattle.grammar.proofs.Basics.{◌≡◌, refl, true, false, Bool, ◌&&◌, ◌||◌, or-false, and-true, List, [], ◌∷◌, ℕ, ◌<◌}
+use Rattle.grammar.proofs.Basics.{arith}
 use Rattle.grammar.specs.Rule.{Rule, head, body, empty, unit, pair}
 use Rattle.grammar.proofs.Strings.{All, nil, cons}
-use Rattle.job.specs.declared.RuleFields as declared
-use Rattle.job.specs.Format.{byte_e, byte_u}
+use Rattle.job.specs.declared.Rule as declared
 use Rattle.job.specs.Inside.Keys.{Keys, rules_of_keys, rule_from, RuleFits}
 use Rattle.job.specs.Theorems.InRange.{RuleInRange, RulesInRange}
 use Rattle.job.proofs.KeyRules.{keys_in_range, from_in_range}
@@ -24,23 +23,31 @@ range_below r ρ m = rule_below ρ (r ρ m)
 pub keys_below : {keys : List ℕ} → Keys keys → Below 64 (rules_of_keys keys)
 keys_below {keys} ks = range_below (keys_in_range keys ks.fit)
 
-module _ (r : declared.RuleFields) where
-  pub from_below : RuleFits r → All (λ X. X < 64) (head (rule_from r) ∷ body (rule_from r))
-  from_below f = rule_below (rule_from r) (from_in_range r f)
+pub from_below : (r : declared.Rule) → RuleFits r → All (λ X. X < 64) (head (rule_from r) ∷ body (rule_from r))
+from_below r f = rule_below (rule_from r) (from_in_range r f)
 
-  -- the tests of the body, as the code goes through its symbols
-  pub body_all_lem : (set : ℕ → Bool) →
-      all_in_lem set (body (rule_from r))
-      ≡ cond (eqb r.kind byte_e) true (set r.second && cond (eqb r.kind byte_u) true (set r.third))
-  unfolding rule_from all_in_lem
-  body_all_lem set =
-      cases (eqb r.kind byte_e) (λ k. rw k)
-      (λ k. cases (eqb r.kind byte_u) (λ l. rw (k, l)) (λ l. simp (k, l, and-true)))
+-- the tests of bodies of no, one and two symbols
+module _ (set : ℕ → Bool) where
+  pub all_of_none : all_in_lem set [] ≡ true
+  unfolding all_in_lem
+  all_of_none = refl
 
-  pub body_any_lem : (set : ℕ → Bool) →
-      any_in set (body (rule_from r))
-      ≡ cond (eqb r.kind byte_e) false (set r.second || cond (eqb r.kind byte_u) false (set r.third))
-  unfolding rule_from any_in
-  body_any_lem set =
-      cases (eqb r.kind byte_e) (λ k. rw k)
-      (λ k. cases (eqb r.kind byte_u) (λ l. rw (k, l)) (λ l. simp (k, l, or-false)))
+  pub all_of_one : (X : ℕ) → all_in_lem set (X ∷ []) ≡ set X
+  unfolding all_in_lem
+  all_of_one X = and-true (set X)
+
+  pub all_of_two : (X Y : ℕ) → all_in_lem set (X ∷ Y ∷ []) ≡ (set X && set Y)
+  unfolding all_in_lem
+  all_of_two X Y = rw and-true
+
+  pub any_of_none : any_in set [] ≡ false
+  unfolding any_in
+  any_of_none = refl
+
+  pub any_of_one : (X : ℕ) → any_in set (X ∷ []) ≡ set X
+  unfolding any_in
+  any_of_one X = or-false (set X)
+
+  pub any_of_two : (X Y : ℕ) → any_in set (X ∷ Y ∷ []) ≡ (set X || set Y)
+  unfolding any_in
+  any_of_two X Y = rw or-false

@@ -1,6 +1,6 @@
 -- What a call of the verdicts leaves, by whether it is refused. Assumes nothing.
 use Rattle.grammar.proofs.Basics.{◌≡◌, false, List, ℕ, ◌≤◌, length, eq-eqb, ne_eqb}
-use Rattle.job.specs.declared.Checked.{Checked}
+use Rattle.job.specs.Records.{Checked}
 use Rattle.job.specs.Accepted.{Accepted}
 use Rattle.job.specs.Job.{job_of}
 use Rattle.job.proofs.CallChecks.{both_pass, long_enough, call_passed}

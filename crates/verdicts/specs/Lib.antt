@@ -1,3 +1,4 @@
+pub mod Answers
 pub mod Verdicts
 pub mod Operation
 pub mod Meaning

@@ -1,10 +1,10 @@
 -- The whole outcome of the verdicts, for every input: the answer, the table and the codes. Assumes nothing.
 use Rattle.std.specs.Prelude.{ℕ, false, cond, List, eqb}
-use Rattle.job.specs.declared.Checked.{Checked}
+use Rattle.job.specs.Records.{Checked}
 use Rattle.job.specs.Check.{Checks, job_check, short_table, short_codes, or_else}
 use Rattle.job.specs.Job.{Job, job_of}
 use Rattle.job.specs.Written.{written, cleared}
-use Rattle.verdicts.specs.declared.Verdicts.{Verdicts}
+use Rattle.verdicts.specs.Answers.{Verdicts}
 use Rattle.verdicts.specs.Verdicts.{code_of, is_empty, growing}
 
 -- the checks of the verdicts: 10, then the job's without 9, as the verdicts use only the rules and S; by the checks of

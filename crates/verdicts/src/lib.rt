@@ -3,11 +3,9 @@
 
 pub mod theorems;
 
-// What the verdicts answer: a refusal's number and place, 0 and 0 where nothing is refused, and two verdicts.
+// What is judged of a grammar's language: whether it is empty, and whether it grows.
 #[derive(Clone, Copy)]
-pub struct Verdicts {
-    pub number: usize,
-    pub place: usize,
+pub struct Judged {
     pub empty: bool,
     pub growing: bool,
 }

@@ -5,14 +5,19 @@ use Rattle.std.proofs.lemmas.List.Edits.{sets}
 use Rattle.grammar.specs.Rule.{Rule}
 use Rattle.grammar.specs.Counting.{count}
 use Rattle.machine.specs.Table.{table_size, reasons_size, symbol_at}
-use Rattle.forms.specs.declared.ReasonBytes.{ReasonBytes}
+use Rattle.job.specs.Format.{byte_e, byte_u, byte_p}
+use Rattle.forms.specs.declared.Reason.{Reason}
+use Rattle.forms.specs.declared.Reason.TheVariants.{Given, Empty, Unit, Pair}
 use Rattle.forms.specs.Listing.{Listed, listing, reason_at_lem, premises, records_at, is_listed, visit, depth_bound}
-use Rattle.forms.specs.Listing.{list_all_lem}
+use Rattle.forms.specs.Listing.{list_all_lem, byte_g}
 use Rattle.forms.specs.Grounded.{DonePlace, ReasonFits, Grounded}
 
 -- Forms and listings: the last five bytes of a record; the fifth is 0
-abbrev pub five_bytes : ReasonBytes → List ℕ
-five_bytes why = why.kind ∷ why.second ∷ why.third ∷ why.middle ∷ 0 ∷ []
+abbrev pub five_bytes : Reason → List ℕ
+five_bytes Given = byte_g ∷ 0 ∷ 0 ∷ 0 ∷ 0 ∷ []
+five_bytes Empty = byte_e ∷ 0 ∷ 0 ∷ 0 ∷ 0 ∷ []
+five_bytes (Unit X) = byte_u ∷ X ∷ 0 ∷ 0 ∷ 0 ∷ []
+five_bytes (Pair B C m) = byte_p ∷ B ∷ C ∷ m ∷ 0 ∷ []
 
 -- how many places are not listed yet
 unfoldable pub unlisted_count : List ℕ → ℕ

@@ -2,7 +2,6 @@ use Rattle.grammar.proofs.Basics.{◌≡◌, sym, List, ℕ, ◌<◌, ◌≤◌,
 use Rattle.grammar.proofs.Basics.{length-take-le}
 use Rattle.grammar.proofs.Basics.{get_or-take}
 use lib.ListN.{length-replicate}
-use Rattle.forms.proofs.Walks.{table_kept, out_kept}
 use Rattle.forms.proofs.ListAll.{pass_begins, next_done, pass_goes_on, pass_ends, may_visit}
 use Rattle.listing.proofs.list_all.Goals as goal
 
@@ -16,20 +15,14 @@ next i n route h = sym (get_or-take n _ _ 0 h)
 pub loop-i-init : goal.loop-i-init
 loop-i-init c =
     let can = c.requires.able in
-    (omega arith, length-replicate {A = ℕ} 32768 0, can, pass_begins can)
+    (length-replicate {A = ℕ} 32768 0, can, pass_begins can)
 
-pub offset_bounds-route-i : goal.offset_bounds-route-i
-offset_bounds-route-i c = omega (arith, c.requires.sequence.0)
-
-pub bounds-route-i : goal.bounds-route-i
-bounds-route-i c = omega (arith, c.requires.sequence.0)
-
-pub overflow_cast-route : goal.overflow_cast-route
-overflow_cast-route c =
+pub overflow_cast-p : goal.overflow_cast-p
+overflow_cast-p c =
     let inv = c.loop-i.invariant in
     omega (
       arith,
-      (next_done inv.2 (inside _ _ _ c.requires.sequence.1 c.loop-i-test.true) inv.3
+      (next_done inv.1 (inside _ _ _ c.requires.sequence.1 c.loop-i-test.true) inv.2
           (next _ _ c.args.route.now c.loop-i-test.true)).within,
     )
 
@@ -38,34 +31,21 @@ visit-count-requires c =
     record {
       able =
           let inv = c.loop-i.invariant in
-          may_visit inv.2 (inside _ _ _ c.requires.sequence.1 c.loop-i-test.true) inv.3
-          (next _ _ c.args.route.now c.loop-i-test.true) _ inv.1;
+          may_visit inv.1 (inside _ _ _ c.requires.sequence.1 c.loop-i-test.true) inv.2
+          (next _ _ c.args.route.now c.loop-i-test.true) _ inv.0;
     }
-
-pub overflow_add-i : goal.overflow_add-i
-overflow_add-i c = omega (
-  arith,
-  c.requires.sequence.0,
-)
 
 pub loop-i-preserved : goal.loop-i-preserved
 loop-i-preserved c =
     let inv = c.loop-i.invariant in (
-      omega arith,
       c.visit-count.ensures.path,
-      inv.2,
+      inv.1,
       rw (
         c.visit-count.ensures.pass,
         add-one,
-      ) (pass_goes_on inv.2 (inside _ _ _ c.requires.sequence.1 c.loop-i-test.true) inv.3
+      ) (pass_goes_on inv.1 (inside _ _ _ c.requires.sequence.1 c.loop-i-test.true) inv.2
           (next _ _ c.args.route.now c.loop-i-test.true)),
     )
-
-pub shape_of-table : goal.shape_of-table
-shape_of-table c = table_kept c.loop-i.invariant.3
-
-pub shape_of-listing : goal.shape_of-listing
-shape_of-listing c = out_kept c.loop-i.invariant.3
 
 pub returns : goal.returns
 returns c =
@@ -73,7 +53,7 @@ returns c =
       listed =
           let size = length-take-le c.args.n c.args.route.now c.requires.sequence.1 in
           let end : c.loop-i.i ≡ length (take c.args.n c.args.route.now) =
-          omega (arith, size, c.loop-i.invariant.0, c.loop-i-test.false)
+          omega (arith, size)
           in
-          pass_ends c.loop-i.invariant.2 end c.loop-i.invariant.3;
+          pass_ends c.loop-i.invariant.1 end c.loop-i.invariant.2;
     }

@@ -9,26 +9,15 @@ same_size : (n : ℕ) (t t₀ : List ℕ) → t ≡ each (unmarked_to n) 0 t₀ 
 same_size n t t₀ e = ap length e ∙ length_each _ 0 _
 
 pub loop-i-init : goal.loop-i-init
-loop-i-init c = (omega arith, unmarked_none _)
-
-pub bounds-table-i : goal.bounds-table-i
-bounds-table-i c =
-    omega (arith, same_size _ _ _ c.loop-i.invariant.1, c.requires.long, c.loop-i-test.true)
-
-pub bounds-table-i-in-loop-i : goal.bounds-table-i-in-loop-i
-bounds-table-i-in-loop-i c =
-    omega (arith, same_size _ _ _ c.loop-i.invariant.1, c.requires.long, c.loop-i-test.true)
+loop-i-init c = unmarked_none _
 
 pub loop-i-preserved : goal.loop-i-preserved
 loop-i-preserved c =
-    (omega arith, unmarked_next _ (omega (arith, c.requires.long)) c.loop-i.invariant.1 c.without_mark.ensures.byte)
-
-pub shape_of-table : goal.shape_of-table
-shape_of-table c = same_size _ _ _ c.loop-i.invariant.1
+    unmarked_next _ (omega (arith, c.requires.long)) c.loop-i.invariant c.without_mark.ensures.byte
 
 pub returns : goal.returns
 returns c =
     record {
       unmarked =
-          c.loop-i.invariant.1 ∙ ap (λ n. each (unmarked_to n) 0 c.args.table.now) (omega arith);
+          c.loop-i.invariant ∙ ap (λ n. each (unmarked_to n) 0 c.args.table.now) (omega arith);
     }

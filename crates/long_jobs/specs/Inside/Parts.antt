@@ -1,23 +1,21 @@
 -- What single functions of the conversion take and give. Assumes nothing.
-use Rattle.std.specs.Prelude.{◌≡◌, cond, ◌&&◌, List, [], ◌∷◌, ℕ, ◌+◌, ◌*◌, ◌<◌, ◌≤◌, eqb, leb, length, get_or, take}
+use Rattle.std.specs.Prelude.{◌≡◌, cond, ◌&&◌, List, [], ◌∷◌, ℕ, ◌+◌, ◌*◌, ◌≤◌, eqb, leb, length, get_or, take}
+use Rattle.std.specs.Prelude.{Result, IfOk}
+use Rattle.job.specs.declared.Refusal.{Refusal}
 use Rattle.job.specs.declared.JobRecord.{JobRecord}
 use Rattle.job.specs.declared.Tally.{Tally}
 use Rattle.job.specs.Format.{records_of, is_rule_lem, has}
-use Rattle.job.specs.Check.{count_rules, refused}
+use Rattle.job.specs.Records.{Checked, refused, accepted}
+use Rattle.job.specs.Check.{count_rules}
+use Rattle.job.specs.Refusals.{checked_of}
 use Rattle.job.specs.Job.{empty_record, unit_record}
 use Rattle.job.specs.Inside.Walk.{is_second_by}
-use Rattle.long_jobs.specs.declared.Binarized.{Binarized}
 use Rattle.long_jobs.specs.declared.Progress.{Progress}
 use Rattle.long_jobs.specs.declared.WalkState.{WalkState}
-use Rattle.long_jobs.specs.declared.WalkEnd.{WalkEnd}
 use Rattle.long_jobs.specs.Dialect.{short_of}
 use Rattle.long_jobs.specs.Check.{form_fault_lem}
 use Rattle.long_jobs.specs.Convert.{Conversion}
 use Rattle.long_jobs.specs.Walk.{convert_fault, walked}
-
--- no record is refused by itself
-abbrev pub AllFormed : List (List ℕ) → Type 0
-AllFormed rs = (i : ℕ) → i < length rs → form_fault_lem (get_or rs i []) ≡ 0
 
 -- refusals 3, 4, 15 and 6 of a record after those counted, 0 if none
 unfoldable pub fault_after : Tally → List ℕ → ℕ
@@ -58,31 +56,32 @@ pub record Reached (before p : Progress) (out : List ℕ) (c : Conversion) : Typ
   pub taken_more : p.taken ≤ before.taken + 6
   pub count_more : p.count ≤ before.count + 7
 
--- the numbers of the second walk that a conversion has
-abbrev pub progress_of : WalkState → Progress
-progress_of s = record { taken = s.taken; count = s.count }
-
 -- where the second walk stands before record i: the rules are counted, and at most i other records are written
 pub record Underway (free i : ℕ) (s : WalkState) (out : List ℕ) : Type 0 where
   pub out_size : length out ≡ written_size
   pub free_few : free ≤ 32
-  pub taken_few : s.taken ≤ free
-  pub rules : s.rules ≡ count_rules (first_records s.count out)
+  pub taken_few : s.progress.taken ≤ free
+  pub rules : s.rules ≡ count_rules (first_records s.progress.count out)
   pub rules_few : s.rules ≤ 256
-  pub count_few : s.count ≤ s.rules + i
+  pub count_few : s.progress.count ≤ s.rules + i
 
--- and what the step with record i gives: the number of a refusal or, where it is 0, the conversion after the record
-pub record Stepped (free i : ℕ) (before after : Conversion) (s : WalkState) (out : List ℕ) : Type 0 where
-  pub number : s.number ≡ convert_fault free before after
-  pub is : s.number ≡ 0 → conversion_of (progress_of s) out ≡ after
-  pub underway : s.number ≡ 0 → Underway free (i + 1) s out
+-- a record's refusal by a number, 0 for none
+abbrev pub refused_there : ℕ → ℕ → Checked
+refused_there number i = cond (eqb number 0) accepted (refused number i)
 
--- what the second walk gives: a refusal or, where there is none, the records that are written
-pub record WalkedTo (rs : List (List ℕ)) (w : WalkEnd) (out : List ℕ) : Type 0 where
+-- and what the step with record i gives: a refusal or, where there is none, the conversion after the record
+pub record Stepped (free i : ℕ) (before after : Conversion) (step : Result WalkState Refusal) (out : List ℕ) :
+    Type 0 where
+  pub refusal : checked_of step ≡ refused_there (convert_fault free before after) i
+  pub is : IfOk step (λ s. conversion_of s.progress out ≡ after)
+  pub underway : IfOk step (λ s. Underway free (i + 1) s out)
+
+-- what the second walk gives: a refusal or, where there is none, how many records are written
+pub record WalkedTo (rs : List (List ℕ)) (w : Result ℕ Refusal) (out : List ℕ) : Type 0 where
   pub out_size : length out ≡ written_size
-  pub refusal : refused w.number w.place ≡ (walked rs).refusal
-  pub written : w.number ≡ 0 → first_records w.count out ≡ (walked rs).written
-  pub few : w.number ≡ 0 → w.count ≤ 4352
+  pub refusal : checked_of w ≡ (walked rs).refusal
+  pub written : IfOk w (λ count. first_records count out ≡ (walked rs).written)
+  pub few : IfOk w (λ count. count ≤ 4352)
 
 -- 5 or 7 for one record, after those seen and so many rules; 0 if neither
 abbrev pub fault_of : List JobRecord → ℕ → JobRecord → ℕ
@@ -92,7 +91,3 @@ fault_of seen rules r = cond (has seen r) 5 (cond (is_rule_lem r && leb 256 rule
 abbrev pub short_rule_lem : ℕ → List ℕ → JobRecord
 short_rule_lem A [] = empty_record A
 short_rule_lem A (X ∷ β) = unit_record A X
-
--- the answer of a refused call
-abbrev pub refusal : ℕ → ℕ → Binarized
-refusal number place = record { number = number; place = place; records = 0 }

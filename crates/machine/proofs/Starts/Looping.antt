@@ -1,15 +1,16 @@
 -- What the functions that write the ε transitions leave, on a table of bytes or of bits: one state after the other for
 -- an E rule, and one rule after the other. Assumes nothing.
-use Rattle.grammar.proofs.Basics.{◌≡◌, refl, ◌∙◌, ap, false, List, ℕ, ◌<◌, ◌≤◌, ◌+◌, ◌*◌, add-one, arith, eqb}
-use Rattle.grammar.proofs.Basics.{length, get_or, eq-eqb, ne_eqb, length-map, List·getD-map, cases}
-use Rattle.job.specs.Format.{byte_e, byte_u}
-use Rattle.job.specs.Inside.Keys.{KeyFits, unpacked, key_head, key_kind, rule_of_key, rules_of_keys}
-use Rattle.job.specs.declared.RuleFields as declared
+use Rattle.grammar.proofs.Basics.{◌≡◌, refl, ◌∙◌, sym, ap, List, ℕ, ◌<◌, ◌≤◌, ◌+◌, ◌*◌, add-one, arith}
+use Rattle.grammar.proofs.Basics.{length, get_or, length-map, List·getD-map}
+use Rattle.job.specs.Inside.Keys.{KeyFits, unpacked, rule_of_key, rules_of_keys, rule_with}
+use Rattle.job.specs.declared.Body.{Body}
+use Rattle.job.specs.declared.Body.TheVariants.{Empty, Unit, Pair}
+use Rattle.job.specs.declared.Rule as declared
+use Rattle.job.proofs.KeyRules.{read_body, read_fits}
 use Rattle.machine.specs.Table.{Lent, lent_of, table_place, reason_of}
 use Rattle.machine.specs.Inside.Offers.{VariablePlace, offer_to, add_offer}
 use Rattle.machine.specs.Inside.StartParts.{looping_below, looping_rule, looping_all}
 use Rattle.machine.proofs.Offers.Adding.{variable_place}
-use Rattle.machine.proofs.Offers.Keys.{body_fits}
 use Rattle.machine.proofs.Starts.StartWalk.{Walked, walk_goes_on, walk_ends}
 use Rattle.machine.proofs.Tables.SameLengths.{AsLong, as_long, then_long}
 
@@ -19,10 +20,10 @@ pub record Looped (states A reason : ℕ) (m m' : Lent) (q : ℕ) : Type 0 where
   pub long : AsLong m m'
   pub so_far : m' ≡ looping_below A reason q m
 
-pub loop-place : (states key q : ℕ) (ρ : declared.RuleFields) → ρ ≡ unpacked key → KeyFits key → states ≤ 32 → q < states →
+pub loop-place : (states key q : ℕ) (ρ : declared.Rule) → ρ ≡ unpacked key → KeyFits key → states ≤ 32 → q < states →
     VariablePlace (table_place q ρ.head q)
 loop-place states key q ρ unpack fits few h =
-    variable_place q ρ.head q (omega arith) (body_fits key ρ unpack fits).head (omega arith)
+    variable_place q ρ.head q (omega arith) (read_fits key unpack fits).head (omega arith)
 
 pub looped_begins : (states A reason : ℕ) (m : Lent) → Looped states A reason m m 0
 unfolding looping_below
@@ -40,21 +41,21 @@ looped_goes_on states A reason m m' q t t' h e l l' so =
       so_far = rw add-one (e ∙ ap (add_offer (offer_to q A q reason)) so.so_far);
     }
 
-module _ (states rank key : ℕ) (m : Lent) (ρ : declared.RuleFields) (unpack : ρ ≡ unpacked key) where
-  pub no_loop : (ρ.kind ≡ byte_e → ⊥) → m ≡ looping_rule states rank (rule_of_key key) m
-  unfolding rule_of_key
-  no_loop d =
-      let e : eqb (key_kind key) byte_e ≡ false = ne_eqb (key_kind key) byte_e (λ k. d (cc)) in
-      cases (eqb (key_kind key) byte_u) (λ u. rw (e, u)) (λ u. rw (e, u))
+module _ (states rank key : ℕ) (m : Lent) (ρ : declared.Rule) (unpack : ρ ≡ unpacked key) where
+  pub no_loop : (ρ.body ≡ Empty → ⊥) → m ≡ looping_rule states rank (rule_of_key key) m
+  no_loop d = no_loop_at ρ.body d ∙ sym (ap (λ r. looping_rule states rank r m) (read_body key unpack refl))
+    where
+      no_loop_at : (b : Body) → (b ≡ Empty → ⊥) → m ≡ looping_rule states rank (rule_with ρ.head b) m
+      no_loop_at Empty d = absurd (d refl)
+      no_loop_at (Unit x) d = refl
+      no_loop_at (Pair x y) d = refl
 
-  pub looped_ends : (m' : Lent) (q : ℕ) → ρ.kind ≡ byte_e → states ≤ q →
+  pub looped_ends : (m' : Lent) (q : ℕ) → ρ.body ≡ Empty → states ≤ q →
       Looped states ρ.head (1 + 32 * rank) m m' q → m' ≡ looping_rule states rank (rule_of_key key) m
-  unfolding rule_of_key
   looped_ends m' q k h l =
       let e : q ≡ states = omega (arith, l.within) in
       let n : 1 + 32 * rank ≡ reason_of rank 0 = omega arith in
-      let head : ρ.head ≡ key_head key = cc in
-      rw (eq-eqb (key_kind key) byte_e (cc), ← e, ← n, ← head) l.so_far
+      rw (read_body key unpack k, ← e, ← n) l.so_far
 
 -- the rules of the keys
 module _ (states : ℕ) (keys : List ℕ) (m m' : Lent) (k : ℕ)

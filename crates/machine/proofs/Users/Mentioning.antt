@@ -1,15 +1,15 @@
 -- The index of the rules, rule by rule: a rule more adds its rank to the lists of its symbols, and to no other.
 -- Assumes nothing.
-use Rattle.grammar.proofs.Basics.{◌≡◌, refl, ◌∙◌, sym, ap, ⊎_elim, true, false, Bool, cond, ◌||◌, List, ◌∷◌, [], ◌++◌}
+use Rattle.grammar.proofs.Basics.{◌≡◌, refl, ◌∙◌, sym, ap, true, false, Bool, cond, ◌||◌, List, ◌∷◌, [], ◌++◌}
 use Rattle.grammar.proofs.Basics.{ℕ, ◌<◌, ◌≤◌, ◌+◌, suc, add-zero, zero-add, arith, eqb, length, get_or, take}
 use Rattle.grammar.proofs.Basics.{length-map, length-take-le, ne_eqb, eqb-true, cases}
 use Rattle.grammar.specs.Rule.{Rule}
-use Rattle.job.specs.Format.{byte_e, byte_u, byte_p}
-use Rattle.job.specs.Inside.Keys.{unpacked, rule_of_key, rules_of_keys, key_kind, KeyFits}
-use Rattle.job.proofs.KeyRules.{rules_more}
+use Rattle.job.specs.Inside.Keys.{unpacked, rule_of_key, rules_of_keys}
+use Rattle.job.proofs.KeyRules.{rules_more, read_body}
 use Rattle.machine.specs.Inside.Users.{mentions, mentioning, UsersListed, UsersRoom, Appended}
 use Rattle.machine.proofs.Users.Appending.{append_none, append_both, room_after, room_wider}
-use Rattle.job.specs.declared.RuleFields as declared
+use Rattle.job.specs.declared.Body.TheVariants.{Empty, Unit, Pair}
+use Rattle.job.specs.declared.Rule as declared
 
 -- the ranks of the rules that mention a symbol, with one rule more
 mentioning_end : (X rank : ℕ) (ρs : List Rule) (ρ : Rule) →
@@ -58,30 +58,20 @@ or_same false = refl
 
 -- what is appended for the rule of an unpacked key: nothing for an E rule, one rank for a U rule and for a P rule of
 -- twice the same symbol, else two
-module _ (k rank : ℕ) {users used : List ℕ} {ρ : declared.RuleFields} (unpack : ρ ≡ unpacked k) where
-  pub none_appended : ρ.kind ≡ byte_e → Appended (λ X. mentions X (rule_of_key k)) rank users used users used
-  unfolding rule_of_key
-  none_appended e = rw (rw unpack at e) append_none
+module _ (k rank : ℕ) {users used : List ℕ} {ρ : declared.Rule} (unpack : ρ ≡ unpacked k) where
+  pub none_appended : ρ.body ≡ Empty → Appended (λ X. mentions X (rule_of_key k)) rank users used users used
+  none_appended e = rw (read_body k unpack e) append_none
 
-  module _ {users' used' : List ℕ} (one : Appended (eqb ρ.second) rank users used users' used') where
-    pub one_appended : KeyFits k → (ρ.kind ≡ byte_e → ⊥) → (ρ.kind ≡ byte_p → ⊥) →
-        Appended (λ X. mentions X (rule_of_key k)) rank users used users' used'
-    unfolding rule_of_key
-    one_appended fits notE notP =
-        let u : key_kind k ≡ byte_u =
-        ⊎_elim (λ e. absurd (notE (rw unpack e))) (⊎_elim (λ e. e) (λ e. absurd (notP (rw unpack e)))) fits.kind in
-        rw u (rw unpack at one)
+  module _ {x : ℕ} {users' used' : List ℕ} (one : Appended (eqb x) rank users used users' used') where
+    pub one_appended : ρ.body ≡ Unit x → Appended (λ X. mentions X (rule_of_key k)) rank users used users' used'
+    one_appended e = rw (read_body k unpack e) one
 
-    pub twin_appended : ρ.kind ≡ byte_p → ρ.third ≡ ρ.second →
-        Appended (λ X. mentions X (rule_of_key k)) rank users used users' used'
-    unfolding rule_of_key
-    twin_appended e same = rw (rw unpack at e, rw unpack at same) (simp or_same (rw unpack at one))
+    module _ {y : ℕ} (e : ρ.body ≡ Pair x y) where
+      pub twin_appended : y ≡ x → Appended (λ X. mentions X (rule_of_key k)) rank users used users' used'
+      twin_appended same = rw (read_body k unpack e, same) (simp or_same one)
 
-    pub two_appended : {users'' used'' : List ℕ} → ρ.kind ≡ byte_p → (ρ.third ≡ ρ.second → ⊥) →
-        Appended (eqb ρ.third) rank users' used' users'' used'' →
-        Appended (λ X. mentions X (rule_of_key k)) rank users used users'' used''
-    unfolding rule_of_key
-    two_appended e apart two =
-        rw (rw unpack at e)
-        (rw unpack at
-        (append_both one (λ X c. ne_eqb ρ.third X (λ q. apart (q ∙ sym (eqb-true ρ.second X c)))) two))
+      pub two_appended : {users'' used'' : List ℕ} → (y ≡ x → ⊥) → Appended (eqb y) rank users' used' users'' used'' →
+          Appended (λ X. mentions X (rule_of_key k)) rank users used users'' used''
+      two_appended apart two =
+          rw (read_body k unpack e)
+          (append_both one (λ X c. ne_eqb y X (λ q. apart (q ∙ sym (eqb-true x X c)))) two)

@@ -1,14 +1,16 @@
--- What the functions that write a piece of what is printed promise. Assumes nothing.
+-- What the methods that write a piece of what is printed promise. Assumes nothing.
 use Rattle.std.specs.Prelude.{◌≡◌, ℕ, ◌+◌, ◌^◌, ◌<◌, ◌≤◌, List, length}
 use Rattle.std.proofs.lemmas.List.Edits.{sets}
+use Rattle.spelling.specs.declared.page.Page.{Page}
 
--- A piece of at most so many bytes is written from a place on, byte by byte, where there is room for it; `next` is the
--- place after it, whether there was room or not
-pub record Placed (piece : List ℕ) (most at : ℕ) (before : List ℕ) (next : ℕ) (after : List ℕ) : Type 0 where
-  pub moved : next ≡ at + length piece
+-- A piece of at most so many bytes is written where the page's bytes so far end, byte by byte, where the buffer has room
+-- for it; the bytes are counted whether there was room or not, and the buffer is the one that was lent
+pub record Placed (piece : List ℕ) (most : ℕ) (before after : Page) : Type 0 where
+  pub same : after.out.ghost_name ≡ before.out.ghost_name
+  pub moved : after.at ≡ before.at + length piece
   pub short : length piece ≤ most
-  pub written : after ≡ sets before at piece
+  pub written : after.out.now ≡ sets before.out.now before.at piece
 
--- the place after so many bytes more is a number of 64 bits
-abbrev pub Room : ℕ → ℕ → Type 0
-Room at most = at + most < 2 ^ 64
+-- the count of so many bytes more is a number of 64 bits
+abbrev pub Room : Page → ℕ → Type 0
+Room page most = page.at + most < 2 ^ 64

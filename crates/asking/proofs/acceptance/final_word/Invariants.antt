@@ -1,12 +1,8 @@
 -- `acceptance::final_word` meets its contract. The loop's invariant: the states noted, with those that the records
 -- from i on have, are all final ones. Assumes nothing.
-use Rattle.grammar.proofs.Basics.{◌≡◌, ◌-◌, length}
 use Rattle.job.specs.Format.{records_of}
 use Rattle.forms.proofs.FinalWord.{FinalFrom}
 use Rattle.asking.proofs.acceptance.final_word.Given as goal
 
 abbrev pub invariant-loop-i : goal.invariant-loop-i
-invariant-loop-i l = (l.count ≡ length (records_of l.job)) × FinalFrom (records_of l.job) l.word l.i
-
-abbrev pub decreases-loop-i : goal.decreases-loop-i
-decreases-loop-i l = l.count - l.i
+invariant-loop-i l = FinalFrom (records_of l.job) l.word l.i

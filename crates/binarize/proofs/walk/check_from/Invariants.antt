@@ -1,13 +1,8 @@
 -- `walk::check_from`. The invariant: no record from the first tried up to the j-th is refused, so the fault is that of
 -- the records from j on, and the rules before it are counted. Assumes nothing.
-use Rattle.grammar.proofs.Basics.{◌≡◌, ◌≤◌, ◌-◌, length}
 use Rattle.job.specs.Format.{records_of}
 use Rattle.long_jobs.proofs.WrittenFault.{Tried}
 use Rattle.binarize.proofs.walk.check_from.Given as goal
 
 abbrev pub invariant-loop-j : goal.invariant-loop-j
-invariant-loop-j l =
-    (l.j ≤ l.count) × (l.count ≡ length (records_of l.records)) × Tried (records_of l.records) l.from l.j l.rules
-
-abbrev pub decreases-loop-j : goal.decreases-loop-j
-decreases-loop-j l = l.count - l.j
+invariant-loop-j l = Tried (records_of l.records) l.from l.j l.rules

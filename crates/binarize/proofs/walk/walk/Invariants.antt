@@ -1,14 +1,8 @@
 -- `walk::walk`. The invariant: the definition's walk over the records from i on, from the conversion that the code's
 -- numbers and buffer say, comes to what the whole walk comes to. Assumes nothing.
-use Rattle.grammar.proofs.Basics.{◌≡◌, ◌≤◌, ◌-◌, length}
 use Rattle.long_jobs.specs.Dialect.{long_records_lem}
 use Rattle.long_jobs.proofs.WalkSteps.{Walking}
 use Rattle.binarize.proofs.walk.walk.Given as goal
 
 abbrev pub invariant-loop-i : goal.invariant-loop-i
-invariant-loop-i l =
-    (l.i ≤ l.count) × (l.count ≡ length (long_records_lem l.source))
-    × Walking (long_records_lem l.source) l.free l.available l.i l.s l.written
-
-abbrev pub decreases-loop-i : goal.decreases-loop-i
-decreases-loop-i l = l.count - l.i
+invariant-loop-i l = Walking (long_records_lem l.source) l.free.variables l.free.count l.i l.s l.written

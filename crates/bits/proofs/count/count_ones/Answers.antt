@@ -17,26 +17,20 @@ row_counted bits k w l e =
 
 pub loop-k-init : goal.loop-k-init
 unfolding count
-loop-k-init c = (omega arith, refl)
-
-pub row-requires : goal.row-requires
-row-requires c = record { within = (omega arith, omega arith, omega arith) }
-
-pub overflow_cast-sum : goal.overflow_cast-sum
-overflow_cast-sum c = omega (arith, ones-le 32 c.row.result c.row.type_inv)
+loop-k-init c = refl
 
 pub overflow_add-sum : goal.overflow_add-sum
 overflow_add-sum c =
     let h = c.loop-k in
     let few = count_bound (bit_at c.args.bits.now done_half) (h.k * 32) in
-    omega (arith, few, h.invariant.1, ones-le 32 c.row.result c.row.type_inv)
+    omega (arith, few, h.invariant, ones-le 32 c.row.result c.row.type_inv)
 
 pub loop-k-preserved : goal.loop-k-preserved
 loop-k-preserved c =
-    let h = c.loop-k in (
-      omega arith,
-      ap (λ (n : ℕ). n + ones c.row.result) h.invariant.1 ∙ row_counted _ h.k _ c.row.type_inv c.row.ensures.bits,
-    )
+    let h = c.loop-k in
+    ap (λ (n : ℕ). n + c.from-sum.result) h.invariant
+    ∙ ap (λ (n : ℕ). count (bit_at c.args.bits.now done_half) (h.k * 32) + n) c.from-sum.ensures
+    ∙ row_counted _ h.k _ c.row.type_inv c.row.ensures.bits
 
 pub returns : goal.returns
 unfolding done_bits
@@ -44,5 +38,5 @@ returns c =
     record {
       counted =
           let end : c.loop-k.k ≡ 2048 = omega arith in
-          rw end at c.loop-k.invariant.1;
+          rw end at c.loop-k.invariant;
     }

@@ -1,12 +1,6 @@
--- `table::set_bit` meets its contract: of a place its bit is set in the word of its row. Assumes nothing.
-use Rattle.grammar.proofs.Basics.{arith}
-use Rattle.bit_machine.proofs.BitBytes.{bit_after_set, row_bit_set}
+-- `set_bit` changes one bit in the word of the place's row. Assumes nothing.
+use Rattle.bit_machine.proofs.BitBytes.{row_bit_set}
 use Rattle.bits.proofs.table.set_bit.Goals as goal
 
 pub returns : goal.returns
-returns c =
-    record {
-      changed =
-          row_bit_set c.row.result c.row.ensures.bits (λ j l. bit_after_set 32 _ _ j
-          (omega arith)) c.write_row.ensures.written;
-    }
+returns c = record { changed = row_bit_set c.row.result c.row.ensures.bits c.with_bit-word.ensures.bits c.write_row.ensures.written }

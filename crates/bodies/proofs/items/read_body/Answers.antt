@@ -1,15 +1,17 @@
-use Rattle.grammar.proofs.Basics.{arith}
-use Rattle.bodies.proofs.BodyReading.{reading_begins, another_element, body_ends}
+use Rattle.bodies.proofs.BodyReading.{another_element, another_line}
 use Rattle.bodies.proofs.items.read_body.Goals as goal
 
-pub loop-at-init : goal.loop-at-init
-loop-at-init c = search reading_begins
+pub loop-preserved : goal.loop-preserved
+loop-preserved c =
+    another_element _ _ _ _ c.loop.invariant _
+    (rw (c.edition.ensures.edition, c.text.ensures.text) at c.element_at-x.ensures.read)
+    c.keep_element.ensures.kept c.in-ElementAfter.is
 
-pub returns-then-not-goes_on : goal.returns-then-not-goes_on
-returns-then-not-goes_on c = record { read = search body_ends }
-
-pub loop-at-preserved : goal.loop-at-preserved
-loop-at-preserved c = search another_element
-
-pub returns : goal.returns
-returns c = record { read = absurd (omega (arith, c.loop-at.invariant.element.inside)) }
+pub returns-in-RuleAfter : goal.returns-in-RuleAfter
+returns-in-RuleAfter c =
+    record {
+      read =
+          another_line _ _ _ _ c.loop.invariant _
+          (rw (c.edition.ensures.edition, c.text.ensures.text) at c.element_at-x.ensures.read)
+          c.keep_element.ensures.kept c.in-RuleAfter.is;
+    }

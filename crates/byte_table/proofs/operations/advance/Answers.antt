@@ -1,62 +1,11 @@
--- `operations::advance` meets its contract: a refusal leaves what is lent, and what passes the checks runs.
--- Assumes nothing.
-use Rattle.grammar.proofs.Basics.{◌≡◌, refl, false, Bool, List, ℕ, eq-eqb, ne_eqb, rules}
-use Rattle.job.specs.declared.Checked.{Checked}
-use Rattle.job.specs.Job.{job_of}
-use Rattle.machine.specs.Table.{Lent, statuses}
-use Rattle.machine.specs.Step.{is_finished}
-use Rattle.machine.specs.Advance.{steps, steps_made, meetings_made}
-use Rattle.machine.specs.Operations.{machine_check_lem, advance_of, advance_by, advance_leaves}
+-- `operations::advance`: what passes the checks runs. Assumes nothing.
+use Rattle.grammar.proofs.Basics.{refl}
 use Rattle.machine.proofs.MachineChecks.{machine_passed}
 use Rattle.byte_table.proofs.operations.advance.Goals as goal
 
-module _ (job : List ℕ) (m : Lent) (n : ℕ) (c : Checked) (checked : c ≡ machine_check_lem job m) where
-  refuses : (c.number ≡ 0 → ⊥) →
-      advance_leaves (record {
-        number = c.number;
-        place = c.place;
-        finished = false;
-        steps = 0;
-        meetings = 0;
-      }) m ≡ advance_of job m n
-  unfolding advance_by
-  refuses d = rw (← checked, ne_eqb c.number 0 d)
+pub run-requires-clause-long : goal.run-requires-clause-long
+run-requires-clause-long c =
+    let p = machine_passed _ _ _ c.in_ok-checked.ensures.checked refl in (p.long, p.long_reasons)
 
-  advances : c.number ≡ 0 → (m' : Lent) (f : Bool) (made met : ℕ) →
-      m' ≡ steps (job_of job).rules n m → f ≡ is_finished (statuses (steps (job_of job).rules n m).table) →
-      made ≡ steps_made (job_of job).rules n m → met ≡ meetings_made (job_of job).rules n m →
-      advance_leaves (record {
-        number = 0;
-        place = 0;
-        finished = f;
-        steps = made;
-        meetings = met;
-      }) m' ≡ advance_of job m n
-  unfolding advance_by
-  advances e m' f made met lent finished counted risen =
-      rw (← checked, eq-eqb c.number 0 e, finished, lent, counted, risen)
-
-pub shape_of-table-then-checked-ne0 : goal.shape_of-table-then-checked-ne0
-shape_of-table-then-checked-ne0 c = refl
-
-pub shape_of-reasons-then-checked-ne0 : goal.shape_of-reasons-then-checked-ne0
-shape_of-reasons-then-checked-ne0 c = refl
-
-pub returns-then-checked-ne0 : goal.returns-then-checked-ne0
-returns-then-checked-ne0 c = record { outcome = search (refuses, rules) }
-
-pub run-ended-requires : goal.run-ended-requires
-run-ended-requires c = let p = machine_passed _ _ _ c.machine_check-checked.ensures.checked c.if-checked-ne0.false in
-    record {
-      long = (p.long, p.long_reasons);
-      accepted = p.ok;
-    }
-
-pub shape_of-table : goal.shape_of-table
-shape_of-table c = search
-
-pub shape_of-reasons : goal.shape_of-reasons
-shape_of-reasons c = search
-
-pub returns : goal.returns
-returns c = record { outcome = search (advances, rules) }
+pub run-requires-clause-accepted : goal.run-requires-clause-accepted
+run-requires-clause-accepted c = (machine_passed _ _ _ c.in_ok-checked.ensures.checked refl).ok

@@ -1,6 +1,6 @@
 -- `show::shown_part`: where the check answers 3 to 7 it names one of at most 4,096 records. Assumes nothing.
 use Rattle.grammar.proofs.Basics.{◌≡◌, ◌∙◌, ap, false, List, ℕ, ◌<◌, ◌≤◌}
-use Rattle.job.specs.declared.Checked.{Checked}
+use Rattle.job.specs.Records.{Checked}
 use Rattle.job.specs.declared.Part.{Part}
 use Rattle.job.specs.Check.{full_limits, job_check}
 use Rattle.job.specs.Show.{part_of_lem, shown_part_lem}
@@ -16,7 +16,7 @@ module _ (c : Checked) (job : List ℕ) (is : c ≡ job_check false job) where
   shown p e = e ∙ ap part_of_lem is
 
 pub part_of-requires : goal.part_of-requires
-part_of-requires c = record { within = few _ _ c.call_check.ensures.checked }
+part_of-requires c = record { within = few _ _ c.job_check.ensures.checked }
 
 pub returns : goal.returns
-returns c = record { part = shown _ _ c.call_check.ensures.checked _ c.part_of.ensures.part }
+returns c = record { part = shown _ _ c.job_check.ensures.checked _ c.part_of.ensures.part }

@@ -1,62 +1,59 @@
--- `operation::copy_rules`: the flags hold the useful symbols, so that the rules kept and the numbers are those of the
+-- `operation::copy_rules`: the set is of the useful symbols, so that the rules kept and the numbers are those of the
 -- clean copy, and the check of room is by its length. Assumes nothing.
-use Rattle.grammar.proofs.Basics.{◌≡◌, List, ℕ, ◌≤◌, ◌+◌, ◌*◌, ◌-◌, arith, length, take, length-take}
-use native.Mathlib.Nat.{sub-zero}
+use Rattle.grammar.proofs.Basics.{◌≡◌, refl, ◌∙◌, ap, ◌+◌, arith, length, length-map}
+use Rattle.std.proofs.lemmas.Result.{err_from_is_err_and}
+use Rattle.job.proofs.Refusals.{not_zero}
 use Rattle.job.specs.Check.{room_check}
+use Rattle.job.specs.Inside.Keys.{rules_of_keys}
 use Rattle.job.proofs.JobChecks.{room_fits}
 use Rattle.usefulness.proofs.Bodies.{keys_below}
-use Rattle.usefulness.proofs.Raising.{flags_bits}
-use Rattle.usefulness.proofs.KeptKeys.{kept_long, kept_lent}
+use Rattle.copies.specs.Inside.Parts.{renumbered_key}
 use Rattle.copies.proofs.CopyRecords.{room_refused, all_copied}
 use Rattle.clean.proofs.operation.copy_rules.Goals as goal
 
--- m records and S have room where m + 1 have
-room_for_taken : (m n : ℕ) (xs : List ℕ) → 4 * (m + 1) ≤ n → 4 * length (take (m - 0) xs) + 4 ≤ n
-room_for_taken m n xs h = rw (sub-zero m) (omega (arith, length-take m xs))
-
-pub returns-then-c-ne0 : goal.returns-then-c-ne0
-returns-then-c-ne0 c =
+pub returns-in_err-room_check : goal.returns-in_err-room_check
+returns-in_err-room_check c =
     record {
       left =
-          let k = c.keep_rules-m.ensures in
-          rw c.refusal.ensures.refusal
-          (room_refused _ _ k.kept (k.rules _ c.useful_symbols.ensures.flags) c.args.out.now _
-          c.room_check-c.ensures.checked c.if-c-ne0.true);
+          let are = c.as_slice-rules.ensures in
+          let k = c.keep_rules-kept.ensures in
+          let p = err_from_is_err_and c.from_residual.result c.from_residual.ensures.1 in
+          rw (p.1, p.2)
+          (room_refused _ _ (rw are k.kept)
+          (ap rules_of_keys are ∙ k.rules _ c.useful_symbols-useful.ensures.flags) c.args.out.now _
+          c.in_err-room_check.ensures.checked (not_zero c.in_err-room_check.field-0.0.cause));
     }
-
-pub number_symbols-requires : goal.number_symbols-requires
-number_symbols-requires c =
-    record {
-      flags =
-          flags_bits c.useful_symbols.ensures.flags;
-    }
-
-pub renumber_keys-requires : goal.renumber_keys-requires
-renumber_keys-requires c = let kept = c.keep_rules-m.ensures.kept in
-    record { rules = kept_lent kept; room = rw sub-zero (omega (arith, kept_long kept, kept.few)) }
 
 pub write_grammar-requires : goal.write_grammar-requires
 write_grammar-requires c =
     record {
       room =
-          let m = c.keep_rules-m.result in
+          let kept = c.as_slice-rules.result.now in
           let out = c.args.out.now in
-          let passed : (room_check (m + 1) (length out)).number ≡ 0
-          = rw (← c.room_check-c.ensures.checked) c.if-c-ne0.false in
-          room_for_taken m (length out) _ (room_fits (m + 1) (length out) passed);
+          let passed : (room_check (length kept + 1) (length out)).number ≡ 0
+          =
+          rw (← c.in_ok-room_check.ensures.checked) refl in
+          omega (
+            arith,
+            ap length (c.as_slice.ensures ∙ c.renumber_keys-renumbered.ensures.keys),
+            length-map kept (renumbered_key c.number_symbols-numbers.result),
+            room_fits (length kept + 1) (length out) passed,
+          );
     }
 
 pub returns : goal.returns
 returns c =
     record {
       left =
-          let k = c.keep_rules-m.ensures in
-          let m = c.keep_rules-m.result in
+          let are = c.as_slice-rules.ensures in
+          let k = c.keep_rules-kept.ensures in
+          let held = c.useful_symbols-useful.ensures.flags in
           let out = c.args.out.now in
-          let passed : (room_check (m + 1) (length out)).number ≡ 0
-          = rw (← c.room_check-c.ensures.checked) c.if-c-ne0.false in
-          all_copied _ _ k.kept (k.rules _ c.useful_symbols.ensures.flags) out (keys_below c.requires.rules)
-          c.requires.start _ _
-          c.useful_symbols.ensures.flags c.number_symbols.ensures.numbers _ _ passed c.renumber_keys.ensures.keys
-          c.write_grammar.ensures.written;
+          let passed : (room_check (length c.as_slice-rules.result.now + 1) (length out)).number ≡ 0
+          =
+          rw (← c.in_ok-room_check.ensures.checked) refl in
+          all_copied _ _ (rw are k.kept) (ap rules_of_keys are ∙ k.rules _ held) out (keys_below c.requires.rules)
+          c.requires.start _ _ held c.number_symbols-numbers.ensures.numbers _ _ passed
+          (c.as_slice.ensures ∙ c.renumber_keys-renumbered.ensures.keys)
+          (rw c.from.ensures at c.write_grammar.ensures.written);
     }

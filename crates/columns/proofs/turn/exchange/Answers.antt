@@ -1,5 +1,5 @@
 -- `exchange` keeps the blocks under the mask of the first word and the others of the second. Assumes nothing.
-use Rattle.grammar.proofs.Basics.{arith, length-set}
+use Rattle.grammar.proofs.Basics.{arith}
 use Rattle.bit_machine.proofs.Turning.{first_word, second_word, exchanged_one, few_bits}
 use Rattle.columns.proofs.turn.exchange.Goals as goal
 
@@ -14,12 +14,6 @@ overflow_cast-words-2 c = omega (arith, few_bits c.requires.blocks.size)
 
 pub overflow_shr-words : goal.overflow_shr-words
 overflow_shr-words c = omega (arith, few_bits c.requires.blocks.size)
-
-pub bounds-words-other-2 : goal.bounds-words-other-2
-bounds-words-other-2 c = simp length-set (omega arith)
-
-pub shape_of-words : goal.shape_of-words
-shape_of-words c = simp length-set
 
 pub returns : goal.returns
 returns c =

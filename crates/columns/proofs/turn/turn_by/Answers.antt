@@ -1,43 +1,33 @@
-use Rattle.grammar.proofs.Basics.{arith}
-use Rattle.bit_machine.proofs.Turning.{turning_begins, turning_goes, turning_ends, run_fits, some_bits}
+use Rattle.grammar.proofs.Basics.{◌≡◌, ℕ, ◌+◌, ◌*◌, ◌/◌, ◌<◌, ◌≤◌, arith}
+use Rattle.bit_machine.specs.Inside.Index.{Block}
+use Rattle.bit_machine.specs.Inside.Index.Block.{one, two, four, eight, sixteen}
+use Rattle.bit_machine.proofs.Turning.{turning_goes, turning_ends}
 use Rattle.columns.proofs.turn.turn_by.Goals as goal
 
-pub loop-at-init : goal.loop-at-init
-loop-at-init c = turning_begins _ _ c.requires.blocks.size
+-- a run that there is begins below the end of the squares, and those that there are reach it
+run_below : {j : ℕ} → Block j → (n : ℕ) → n < 16 / j → n * (j * 16) < 256
+run_below one n h = omega arith
+run_below two n h = omega arith
+run_below four n h = omega arith
+run_below eight n h = omega arith
+run_below sixteen n h = omega arith
 
--- a run ends within the squares
-pub overflow_mul-j : goal.overflow_mul-j
-overflow_mul-j c =
-    omega (arith, run_fits c.requires.blocks.size c.loop-at.at c.loop-at.invariant.whole (omega arith))
+runs_reach : {j : ℕ} → Block j → (n : ℕ) → 16 / j ≤ n → 256 ≤ n * (j * 16)
+runs_reach one n h = omega arith
+runs_reach two n h = omega arith
+runs_reach four n h = omega arith
+runs_reach eight n h = omega arith
+runs_reach sixteen n h = omega arith
 
-pub exchange_run-requires : goal.exchange_run-requires
-exchange_run-requires c = record {
-  within = omega (
-    arith,
-    run_fits c.requires.blocks.size c.loop-at.at c.loop-at.invariant.whole (omega arith),
-    c.loop-at.invariant.long,
-  );
-  blocks = c.requires.blocks;
-}
-
-pub overflow_mul-at : goal.overflow_mul-at
-overflow_mul-at c =
-    omega (arith, run_fits c.requires.blocks.size c.loop-at.at c.loop-at.invariant.whole (omega arith))
-
-pub overflow_add-at : goal.overflow_add-at
-overflow_add-at c =
-    omega (arith, run_fits c.requires.blocks.size c.loop-at.at c.loop-at.invariant.whole (omega arith))
-
-pub loop-at-smaller : goal.loop-at-smaller
-loop-at-smaller c =
-    omega (arith, some_bits c.requires.blocks.size)
-
-pub loop-at-preserved : goal.loop-at-preserved
-loop-at-preserved c =
-    turning_goes c.requires.blocks.size c.loop-at.invariant (omega arith) c.exchange_run.ensures.exchanged
-
-pub shape_of-words : goal.shape_of-words
-shape_of-words c = c.loop-at.invariant.long
+pub loop-n-preserved : goal.loop-n-preserved
+loop-n-preserved c =
+    let next : (c.loop-n.n + 1) * (c.args.j * 16) ≡ c.loop-n.n * (c.args.j * 16) + c.args.j * 16 = omega arith in
+    rw next
+    (turning_goes c.requires.blocks.size c.loop-n.invariant (run_below c.requires.blocks.size c.loop-n.n c.loop-n-test.true)
+    c.exchange_run.ensures.exchanged)
 
 pub returns : goal.returns
-returns c = record { turned = turning_ends c.loop-at.invariant (omega arith) }
+returns c =
+    record {
+      turned = turning_ends c.loop-n.invariant (runs_reach c.requires.blocks.size c.loop-n.n c.loop-n-test.false);
+    }

@@ -1,10 +1,7 @@
 -- `write_square` writes word by word. The invariant: the first r words are written. Assumes nothing.
-use Rattle.grammar.proofs.Basics.{◌≡◌, ◌≤◌, ◌+◌, ◌-◌, ◌*◌, get_or}
+use Rattle.grammar.proofs.Basics.{◌≡◌, ◌+◌, ◌*◌, get_or}
 use Rattle.bit_machine.specs.Inside.Index.{Written}
 use Rattle.columns.proofs.turn.write_square.Given as goal
 
 abbrev pub invariant-loop-r : goal.invariant-loop-r
-invariant-loop-r l = (l.r ≤ 32) × Written l.initial.index l.index l.at l.r (λ i w. w ≡ get_or l.words (i * 8 + l.x) 0)
-
-abbrev pub decreases-loop-r : goal.decreases-loop-r
-decreases-loop-r l = 32 - l.r
+invariant-loop-r l = Written l.initial.index l.index l.at l.r (λ i w. w ≡ get_or l.words (i * 8 + l.x) 0)

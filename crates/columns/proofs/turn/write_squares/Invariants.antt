@@ -1,11 +1,8 @@
 -- `write_squares` writes square by square. The invariant: the first x squares are written. Assumes nothing.
-use Rattle.grammar.proofs.Basics.{◌≡◌, ◌≤◌, ◌+◌, ◌-◌, ◌*◌, ◌/◌, ◌%◌, get_or}
+use Rattle.grammar.proofs.Basics.{◌≡◌, ◌+◌, ◌*◌, ◌/◌, ◌%◌, get_or}
 use Rattle.bit_machine.specs.Inside.Index.{Written}
 use Rattle.columns.proofs.turn.write_squares.Given as goal
 
 abbrev pub invariant-loop-x : goal.invariant-loop-x
 invariant-loop-x l =
-    (l.x ≤ 8) × Written l.initial.index l.index l.at (l.x * 32) (λ i w. w ≡ get_or l.words (i % 32 * 8 + i / 32) 0)
-
-abbrev pub decreases-loop-x : goal.decreases-loop-x
-decreases-loop-x l = 8 - l.x
+    Written l.initial.index l.index l.at (l.x * 32) (λ i w. w ≡ get_or l.words (i % 32 * 8 + i / 32) 0)

@@ -1,4 +1,5 @@
 -- `literal::characters_of`: the first byte, and the letter after a percent sign, tell the form. Assumes nothing.
+use Rattle.grammar.proofs.Basics.{◌≡◌, rules}
 use Rattle.cursor.proofs.LiteralLaws.{string_literal, letter_stands, value_literal, prefixed_literal}
 use Rattle.cursor.proofs.literal.characters_of.Goals as goal
 
@@ -11,15 +12,16 @@ returns-then-text-at-eq34 c =
 pub bounds-text-at-2 : goal.bounds-text-at-2
 bounds-text-at-2 c = search letter_stands
 
-pub returns-then-letter-eq120 : goal.returns-then-letter-eq120
-returns-then-letter-eq120 c =
+pub returns-in-120 : goal.returns-in-120
+returns-in-120 c =
     let h = value_literal c.args.text.now c.args.at c.args.end c.requires.inside.1 c.requires.literal
-    c.to_lower-letter.result c.to_lower-letter.ensures.lowered c.if-text-at-eq34.false c.if-letter-eq120.true in
+    c.to_lower.result c.to_lower.ensures.lowered c.if-text-at-eq34.false c.in-120.is in
     record { characters = h.0; ready = h.1 }
 
-pub returns : goal.returns
-returns c =
+pub returns-in_default : goal.returns-in_default
+returns-in_default c =
+    let other : c.to_lower.result ≡ 120 → ⊥ = search rules in
     let h = prefixed_literal c.args.text.now c.args.at c.args.end c.requires.inside.1 c.requires.literal
-    c.to_lower-letter.result c.to_lower-letter.ensures.lowered c.if-text-at-eq34.false c.quoted-2.result
-    c.quoted-2.ensures.characters c.if-letter-eq120.false in
+    c.to_lower.result c.to_lower.ensures.lowered c.if-text-at-eq34.false c.quoted-in_default.result
+    c.quoted-in_default.ensures.characters other in
     record { characters = h.0; ready = h.1 }

@@ -2,11 +2,8 @@
 use Rattle.cursor.proofs.AfterLaws.{element_ends, element_read}
 use Rattle.cursor.proofs.rules.element_at.Goals as goal
 
-pub after_element-rest-requires : goal.after_element-rest-requires
-after_element-rest-requires c = record {
-  inside = c.piece_at.ensures.within;
-  fine = search element_ends;
-}
+pub after_element-after-requires-clause-fine : goal.after_element-after-requires-clause-fine
+after_element-after-requires-clause-fine c = search element_ends
 
 pub returns : goal.returns
 returns c = record { read = search element_read }

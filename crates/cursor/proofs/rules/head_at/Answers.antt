@@ -8,8 +8,8 @@ run_end-requires c = record { inside = search past_slash }
 pub returns-then-stands_at : goal.returns-then-stands_at
 returns-then-stands_at c = record { read = search adds_read }
 
-pub run_end-requires-2 : goal.run_end-requires-2
-run_end-requires-2 c = record { inside = search past_mark }
+pub run_end-requires-else-stands_at : goal.run_end-requires-else-stands_at
+run_end-requires-else-stands_at c = record { inside = search past_mark }
 
-pub returns : goal.returns
-returns c = record { read = search defines_read }
+pub returns-else-stands_at : goal.returns-else-stands_at
+returns-else-stands_at c = record { read = search defines_read }

@@ -1,21 +1,15 @@
--- `operation::judge` meets its contract: the flags hold the computed sets, and the keys kept the useful
--- rules, so the codes and the answers are the computed ones. Assumes nothing.
-use native.Mathlib.Nat.{sub-zero}
-use Rattle.usefulness.proofs.Raising.{flags_test}
-use Rattle.usefulness.proofs.KeptKeys.{kept_lent}
+-- `operation::judge`: the sets are the computed ones, and the keys kept those of the useful rules, so the codes and the
+-- answers are the computed ones. Assumes nothing.
 use Rattle.judging.proofs.operation.judge.Goals as goal
-
-pub any_cycle-growing-requires : goal.any_cycle-growing-requires
-any_cycle-growing-requires c = record { rules = kept_lent c.keep_rules-m.ensures.kept }
 
 pub returns : goal.returns
 returns c = record {
-  answer = rw (
-    flags_test c.productive_symbols.ensures.flags c.args.start c.requires.start,
-    c.any_cycle-growing.ensures.says,
-    sub-zero c.keep_rules-m.result,
-    c.keep_rules-m.ensures.rules _ c.useful_symbols.ensures.flags,
+  empty = rw (c.contains.ensures.says, c.productive_symbols-productive.ensures.flags.at c.args.start c.requires.start);
+  growing = rw (
+    c.any_cycle.ensures.says,
+    c.as_slice.ensures,
+    c.keep_rules-kept.ensures.rules _ c.useful_symbols-useful.ensures.flags,
   );
-  codes = c.write_codes.ensures.codes _ _ _ c.named_symbols.ensures.flags c.productive_symbols.ensures.flags
-      c.useful_symbols.ensures.flags;
+  codes = c.write_codes.ensures.codes _ _ _ c.named_symbols-named.ensures.flags
+      c.productive_symbols-productive.ensures.flags c.useful_symbols-useful.ensures.flags;
 }

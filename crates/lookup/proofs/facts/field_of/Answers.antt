@@ -1,12 +1,12 @@
-use Rattle.grammar.proofs.Basics.{◌≡◌, ◌∙◌, sym, List, ℕ, ◌<◌, ◌≤◌, ◌+◌, add-one, arith, length, get_or, drop}
-use Rattle.grammar.proofs.Basics.{drop_of_length-le, drop-cons, eq-eqb, ne_eqb, rules}
+use Rattle.grammar.proofs.Basics.{◌≡◌, ◌∙◌, List, ℕ, ◌<◌, ◌≤◌, ◌+◌, add-one, arith, length, get_or, drop}
+use Rattle.grammar.proofs.Basics.{drop_of_length-le, drop-cons, eq-eqb, ne_eqb}
 use Rattle.job.specs.declared.JobRecord.{JobRecord}
 use Rattle.job.specs.Format.{no_record}
 use Rattle.job.specs.Job.{field_of}
 use Rattle.job.proofs.Records.{records_counted}
 use Rattle.lookup.proofs.facts.field_of.Goals as goal
 
-module _ (k : ℕ) (rs : List JobRecord) (count i : ℕ) (all : count ≡ length rs)
+module _ (k : ℕ) (rs : List JobRecord) (count i : ℕ) (all : length rs ≡ count)
     (inv : field_of k rs ≡ field_of k (drop i rs)) where
   module _ (r : JobRecord) (h : i < count) (at : r ≡ get_or rs i no_record) where
     found : r.kind ≡ k → r.first ≡ field_of k rs
@@ -23,14 +23,11 @@ module _ (k : ℕ) (rs : List JobRecord) (count i : ℕ) (all : count ≡ length
   unfolding field_of
   none h = let l : length rs ≤ i = omega arith in rw (inv, drop_of_length-le rs l)
 
-pub loop-i-init : goal.loop-i-init
-loop-i-init c = (sym (records_counted _), search rules)
-
 pub returns-then-r-kind : goal.returns-then-r-kind
-returns-then-r-kind c = record { field = search found }
+returns-then-r-kind c = record { field = search (found, records_counted) }
 
 pub loop-i-preserved : goal.loop-i-preserved
-loop-i-preserved c = (c.loop-i.invariant.0, search other)
+loop-i-preserved c = search (other, records_counted)
 
 pub returns : goal.returns
-returns c = record { field = search none }
+returns c = record { field = search (none, records_counted) }

@@ -1,7 +1,7 @@
 -- `facts::state_count`. The invariant, of `states`:
 -- after the first k records it holds one more than the largest state in their T, I and F records, 0 if there is none
 -- Assumes nothing.
-use Rattle.grammar.proofs.Basics.{◌≡◌, ◌-◌, length}
+use Rattle.grammar.proofs.Basics.{◌≡◌}
 use Rattle.grammar.proofs.Basics.{take}
 use Rattle.job.specs.Format.{records_of}
 use Rattle.job.specs.Job.{states_of}
@@ -9,7 +9,4 @@ use Rattle.lookup.proofs.facts.state_count.Given as goal
 
 abbrev pub invariant-loop-k : goal.invariant-loop-k
 invariant-loop-k l =
-    (l.count ≡ length (records_of l.job)) × (l.states ≡ states_of (take l.k (records_of l.job)))
-
-abbrev pub decreases-loop-k : goal.decreases-loop-k
-decreases-loop-k l = l.count - l.k
+    (l.states ≡ states_of (take l.k (records_of l.job)))

@@ -1,15 +1,14 @@
-use Rattle.grammar.proofs.Basics.{refl, arith}
+use Rattle.grammar.proofs.Basics.{◌∙◌, ◌≤◌, length, arith}
 use Rattle.naming.proofs.Comparing.{hash_on, hash_whole}
 use Rattle.naming.proofs.parts.hash.Goals as goal
 
-pub loop-at-init : goal.loop-at-init
-loop-at-init c = (omega arith, omega arith, refl)
+pub loop-b-preserved : goal.loop-b-preserved
+loop-b-preserved c = (
+  omega arith,
+  hash_on _ _ _ _ c.loop-b.invariant.1 c.loop-b-test.true (c.from.ensures ∙ c.to_lower.ensures.lowered),
+)
 
-pub loop-at-preserved : goal.loop-at-preserved
-loop-at-preserved c = (omega arith, omega arith, search hash_on)
-
-pub returns : goal.returns
-returns c = record {
-  hash = search hash_whole;
-  bucket = omega arith;
-}
+pub returns-clause-hash : goal.returns-clause-hash
+returns-clause-hash c =
+    let whole : length c.args.name.now ≤ c.loop-b.b-index = omega arith in
+    hash_whole _ _ _ c.loop-b.invariant.1 whole

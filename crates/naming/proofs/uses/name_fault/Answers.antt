@@ -1,33 +1,38 @@
-use Rattle.grammar.proofs.Basics.{rules}
-use Rattle.naming.proofs.LineNames.{head_inside}
-use Rattle.naming.proofs.Counts.{one_more_fits}
-use Rattle.naming.proofs.NameFaults.{reached_start, fault_here, fault_later, past_line, line_falls}
-use Rattle.naming.proofs.NameFaults.{no_fault}
+use Rattle.naming.proofs.NameFaults.{reached_start, fault_here, fault_later, past_line, no_fault}
 use Rattle.naming.proofs.uses.name_fault.Goals as goal
 
 pub loop-at-init : goal.loop-at-init
 loop-at-init c = search reached_start
 
-pub find-requires : goal.find-requires
-find-requires c = record {
-  inside = search head_inside;
-  table = search rules;
-}
-
 pub returns-then-above-is_defines : goal.returns-then-above-is_defines
-returns-then-above-is_defines c = record { fault = search fault_here }
-
-pub overflow_add-defined : goal.overflow_add-defined
-overflow_add-defined c = search one_more_fits
-
-pub returns-then-m : goal.returns-then-m
-returns-then-m c = record { fault = search fault_later }
-
-pub loop-at-smaller : goal.loop-at-smaller
-loop-at-smaller c = search line_falls
+returns-then-above-is_defines c =
+    let e = c.edition-edition.ensures.edition in
+    let t = c.text-text.ensures.text in
+    record {
+      fault =
+          fault_here _ _ _ _ _ c.loop-at.invariant _ (rw (e, t) at c.head_at-head.ensures.read) _
+          (rw t at c.number.ensures.number) _ c.is_defines.ensures.says c.if-above-is_defines.true;
+    }
 
 pub loop-at-preserved : goal.loop-at-preserved
-loop-at-preserved c = search past_line
+loop-at-preserved c =
+    let e = c.edition-edition.ensures.edition in
+    let t = c.text-text.ensures.text in
+    rw c.from-defined.ensures
+    (past_line _ _ _ _ _ c.loop-at.invariant _ (rw (e, t) at c.head_at-head.ensures.read) _
+    (rw t at c.number.ensures.number) _ c.is_defines.ensures.says c.if-above-is_defines.false _ c.in-Ok.ensures.looked)
+
+pub returns-in-Err : goal.returns-in-Err
+returns-in-Err c =
+    let e = c.edition-edition.ensures.edition in
+    let t = c.text-text.ensures.text in
+    record {
+      fault =
+          fault_later _ _ _ _ _ c.loop-at.invariant _ (rw (e, t) at c.head_at-head.ensures.read) _
+          (rw t at c.number.ensures.number) _ c.is_defines.ensures.says c.if-above-is_defines.false _
+          c.in-Err.ensures.looked;
+    }
 
 pub returns : goal.returns
-returns c = record { fault = search no_fault }
+returns c =
+    record { fault = no_fault _ _ _ _ _ c.loop-at.invariant (rw c.text-text.ensures.text at c.loop-at-test.false) }

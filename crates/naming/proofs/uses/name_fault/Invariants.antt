@@ -2,13 +2,11 @@
 -- Assumes nothing.
 use Rattle.grammar.proofs.Basics.{◌-◌, length}
 use Rattle.abnf.specs.declared.Stage.TheVariants.{LineStart}
-use Rattle.naming.specs.Table.{names_in}
 use Rattle.naming.proofs.NameFaults.{Reached}
 use Rattle.naming.proofs.uses.name_fault.Given as goal
 
 abbrev pub invariant-loop-at : goal.invariant-loop-at
-invariant-loop-at l =
-    Reached l.edition LineStart l.text (names_in l.text l.entries l.count) l.defined l.at
+invariant-loop-at l = Reached l.named.edition LineStart l.named.text l.named.names l.defined l.at
 
 abbrev pub decreases-loop-at : goal.decreases-loop-at
-decreases-loop-at l = length l.text - l.at
+decreases-loop-at l = length l.named.text - l.at

@@ -4,4 +4,4 @@ use Rattle.packing.proofs.Packed.{bit_with}
 use Rattle.packing.proofs.pack.with_bit.Goals as goal
 
 pub returns : goal.returns
-returns c = record { bits = λ i. bit_with _ _ i _ (omega arith) }
+returns c = record { bits = λ i. rw c.from.ensures (bit_with _ _ i _ (omega arith)) }

@@ -1,48 +1,31 @@
--- `operation::read_names`: 17, and 18 by the names of the table; past them the lines decide. Assumes nothing.
-use Rattle.reader.proofs.EmptyTable.{empty_table}
-use Rattle.reader.proofs.ReadyText.{text_ready, names_long}
+-- `operation::read_names`: 17, and 18 by the names of the text; past them the lines decide. Assumes nothing.
+use Rattle.grammar.proofs.Basics.{refl}
+use Rattle.std.proofs.lemmas.Result.{err_from_is_err_and}
+use Rattle.job.proofs.Refusals.{not_zero}
 use Rattle.reader.proofs.Outcomes.{names_refused, names_passed, by_lines}
 use Rattle.reader.proofs.operation.read_names.Goals as goal
 
-pub collect-count-requires : goal.collect-count-requires
-collect-count-requires c =
-    record { short = c.requires.short; fine = c.requires.fine; empty = empty_table _ }
-
-pub names_check-c-requires : goal.names_check-c-requires
-names_check-c-requires c =
-    let table = c.collect-count.ensures in
-    record { fine = c.requires.fine; table = table.table; names = table.names }
-
-pub returns-then-c-ne0 : goal.returns-then-c-ne0
-returns-then-c-ne0 c =
+pub returns-in_err-names_check : goal.returns-in_err-names_check
+returns-in_err-names_check c =
+    let pre = c.requires in
+    let names = rw c.new-named.ensures.none at c.collect.ensures.names in
     record {
       left =
-          names_refused _ _ c.args.map.now c.args.job.now c.requires.short c.requires.fine c.requires.room _
-          (names_long _ _ _ c.collect-count.ensures.names) _ c.names_check-c.ensures.checked _ c.if-c-ne0.true
-          c.refusal.ensures.refusal;
-    }
-
--- past 17 and 18 by the names
-pub read_bodies-requires : goal.read_bodies-requires
-read_bodies-requires c =
-    let pre = c.requires in
-    let table = c.collect-count.ensures in
-    let passed =
-    names_passed _ _ c.args.map.now c.args.job.now pre.short pre.fine pre.room _ (names_long _ _ _ table.names) _
-    c.names_check-c.ensures.checked c.if-c-ne0.false in
-    record {
-      ready = text_ready pre.fine passed.0 (table.table, table.names);
-      few = passed.1;
-      room = pre.room;
+          let p = err_from_is_err_and c.from_residual.result c.from_residual.ensures.1 in
+          rw (p.1, p.2)
+          (names_refused _ _ _ _ pre.short pre.fine pre.room _ refl _
+          (rw names at c.in_err-names_check.ensures.checked) (not_zero c.in_err-names_check.field-0.0.cause));
     }
 
 pub returns : goal.returns
 returns c =
     let pre = c.requires in
+    let names = rw c.new-named.ensures.none at c.collect.ensures.names in
     let passed =
-    names_passed _ _ c.args.map.now c.args.job.now pre.short pre.fine pre.room _
-    (names_long _ _ _ c.collect-count.ensures.names) _ c.names_check-c.ensures.checked c.if-c-ne0.false in
+    names_passed _ _ c.args.map.now c.args.job.now pre.short pre.fine pre.room _ refl _
+    (rw names at c.in_ok-names_check.ensures.checked) refl in
     record {
       left =
-          by_lines _ _ c.args.map.now c.args.job.now pre.short pre.fine pre.room passed.0 c.read_bodies.ensures.left;
+          by_lines _ _ c.args.map.now c.args.job.now pre.short pre.fine pre.room passed.0
+          (rw names at c.read_bodies.ensures.left);
     }

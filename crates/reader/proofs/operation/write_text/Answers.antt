@@ -1,75 +1,46 @@
 -- `operation::write_text`: the terminals and the keys are those of the text, so that 7 and 13 go by its rules, and
 -- what is written is its map and its records. Assumes nothing.
-use Rattle.grammar.proofs.Basics.{ℕ, arith}
-use lib.ListN.{length-replicate}
-use Rattle.text_symbols.proofs.MarkedSets.{marked_marks}
+use Rattle.grammar.proofs.Basics.{refl}
+use Rattle.std.proofs.lemmas.Result.{err_from_is_err_and}
+use Rattle.job.proofs.Refusals.{not_zero}
 use Rattle.reader.proofs.CharacterMarks.{numbered_alike}
 use Rattle.reader.proofs.Outcomes.{marks_few}
 use Rattle.reader.proofs.PuttingText.{text_numbered}
-use Rattle.reader.proofs.WrittenText.{few_rules, rules_refused, within, part_fits, all_written}
+use Rattle.reader.proofs.WrittenText.{rules_refused, part_fits, all_written}
 use Rattle.reader.proofs.operation.write_text.Goals as goal
 
-pub number_characters-requires : goal.number_characters-requires
-number_characters-requires c =
-    let marks = c.requires.used in
-    record { marks = marked_marks marks; few = marks_few c.requires.fits marks; size = length-replicate {A = ℕ} 256 0 }
+pub numbers-requires : goal.numbers-requires
+numbers-requires c = record { few = marks_few c.requires.fits c.requires.used }
 
-pub put_rules-n-requires : goal.put_rules-n-requires
-put_rules-n-requires c =
-    record {
-      ready = c.requires.ready;
-      fits = c.requires.fits;
-      numbered = numbered_alike c.requires.used c.number_characters.ensures.numbered;
-      size = length-replicate {A = ℕ} 256 0;
-    }
+pub put_rules-rules-requires-clause-numbered : goal.put_rules-rules-requires-clause-numbered
+put_rules-rules-requires-clause-numbered c = numbered_alike c.requires.used c.numbers.ensures.numbered
 
-pub rules_check-c-requires : goal.rules_check-c-requires
-rules_check-c-requires c = record { few = few_rules _ c.put_rules-n.ensures.rules }
-
-pub returns-then-c-ne0 : goal.returns-then-c-ne0
-returns-then-c-ne0 c =
+pub returns-in_err-keys : goal.returns-in_err-keys
+returns-in_err-keys c =
     record {
       left =
-          rules_refused _ c.put_rules-n.ensures.rules (text_numbered c.requires.ready c.requires.fits) c.args.map.now
-          c.args.job.now _ c.rules_check-c.ensures.checked _ c.if-c-ne0.true c.refusal.ensures.refusal;
+          let p = err_from_is_err_and c.from_residual.result c.from_residual.ensures.1 in
+          rw (p.1, p.2)
+          (rules_refused _ c.put_rules-rules.ensures.rules (text_numbered c.requires.ready c.requires.fits) _ _ _
+          c.in_err-keys.ensures.checked (not_zero c.in_err-keys.field-0.0.cause));
     }
 
-pub write_map-requires : goal.write_map-requires
-write_map-requires c =
-    let marks = c.requires.used in
-    record { marks = marked_marks marks; few = marks_few c.requires.fits marks; room = c.requires.room }
-
-pub slice_bounds-write_grammar-end : goal.slice_bounds-write_grammar-end
-slice_bounds-write_grammar-end c =
-    let few =
-    within _ c.put_rules-n.ensures.rules (text_numbered c.requires.ready c.requires.fits) c.args.map.now
-    c.args.job.now _ c.rules_check-c.ensures.checked c.if-c-ne0.false in
-    omega (arith, few, c.put_rules-n.ensures.rules.size)
+pub write_map-requires-clause-few : goal.write_map-requires-clause-few
+write_map-requires-clause-few c = marks_few c.requires.fits c.requires.used
 
 pub write_grammar-requires : goal.write_grammar-requires
 write_grammar-requires c =
     record {
       room =
-          part_fits _ c.put_rules-n.ensures.rules (text_numbered c.requires.ready c.requires.fits) c.args.map.now
-          c.args.job.now _ c.rules_check-c.ensures.checked c.if-c-ne0.false;
-    }
-
-pub overflow_add-result : goal.overflow_add-result
-overflow_add-result c =
-    omega (arith, few_rules _ c.put_rules-n.ensures.rules)
-
-pub count_marks-requires : goal.count_marks-requires
-count_marks-requires c =
-    record {
-      marks =
-          marked_marks c.requires.used;
+          part_fits _ c.put_rules-rules.ensures.rules (text_numbered c.requires.ready c.requires.fits) c.args.map.now
+          c.args.job.now _ c.in_ok-keys.ensures.checked refl c.in_ok-keys.ensures.keys;
     }
 
 pub returns : goal.returns
 returns c =
     record {
       left =
-          all_written _ c.put_rules-n.ensures.rules (text_numbered c.requires.ready c.requires.fits) c.args.map.now
-          c.args.job.now _ c.rules_check-c.ensures.checked c.if-c-ne0.false c.requires.used c.count_marks.ensures.count
-          c.write_map.ensures.mapped c.write_grammar.ensures.written;
+          all_written _ c.put_rules-rules.ensures.rules (text_numbered c.requires.ready c.requires.fits) c.args.map.now
+          c.args.job.now _ c.in_ok-keys.ensures.checked refl c.in_ok-keys.ensures.keys c.requires.used
+          c.count.ensures.count c.write_map.ensures.mapped c.write_grammar.ensures.written;
     }

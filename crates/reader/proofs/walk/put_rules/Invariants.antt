@@ -1,15 +1,12 @@
 -- `walk::put_rules`. The invariant: the keys in order are those of the rules of the bodies up to here. Assumes
 -- nothing.
 use Rattle.grammar.proofs.Basics.{length}
-use Rattle.naming.specs.Table.{names_in}
 use Rattle.bodies.specs.Places.{bodies_at}
 use Rattle.reader.proofs.PuttingText.{Putting}
 use Rattle.reader.proofs.walk.put_rules.Given as goal
 
-abbrev pub invariant-loop-p : goal.invariant-loop-p
-invariant-loop-p l =
-    Putting l.edition l.text l.entries l.count l.p l.kept l.variables l.taken l.keys l.n
+abbrev pub invariant-loop-place : goal.invariant-loop-place
+invariant-loop-place l = Putting l.named l.place l.variables l.rules
 
-abbrev pub decreases-loop-p : goal.decreases-loop-p
-decreases-loop-p l =
-    length (bodies_at l.edition l.text (names_in l.text l.entries l.count) l.p)
+abbrev pub decreases-loop-place : goal.decreases-loop-place
+decreases-loop-place l = length (bodies_at l.named.edition l.named.text l.named.names l.place)

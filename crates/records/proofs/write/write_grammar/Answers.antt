@@ -1,11 +1,11 @@
-use Rattle.grammar.proofs.Basics.{◌≡◌, refl, List, ◌∷◌, [], ◌++◌, map, ℕ, ◌<◌, ◌≤◌, ◌+◌, ◌*◌, arith, length}
+use Rattle.grammar.proofs.Basics.{◌≡◌, List, ◌∷◌, [], ◌++◌, map, ℕ, ◌<◌, ◌≤◌, ◌+◌, ◌*◌, arith, length}
 use Rattle.grammar.proofs.Basics.{get_or, take, drop, length-map, length-take-le}
 use lib.Seq.{take_all}
 use Rattle.job.specs.declared.JobRecord.{JobRecord}
 use Rattle.job.specs.Format.{bytes_of}
 use Rattle.job.specs.Job.{start_record}
 use Rattle.job.specs.Inside.Keys.{record_of_key}
-use Rattle.job.proofs.InFront.{InFront, front_size, front_more, front_none, front_again, front_over}
+use Rattle.job.proofs.InFront.{InFront, front_size, front_more}
 use Rattle.job.proofs.KeyRules.{mapped_more}
 use Rattle.records.proofs.write.write_grammar.Invariants.{first}
 use Rattle.records.proofs.write.write_grammar.Goals as goal
@@ -31,36 +31,9 @@ module _ (start : ℕ) (keys before : List ℕ) where
       let n : 4 * length (first start keys k) ≡ 4 * length keys + 4 = rw (counted start keys k (omega arith)) (omega arith) in
       rw (n, take_all k keys (omega arith)) at f.is
 
-pub loop-k-init : goal.loop-k-init
-loop-k-init c =
-    (omega arith, front_again (front_more (front_none c.args.out.now) 0 _ refl c.put_record.ensures.put))
-
-pub put_record-requires-in-loop-k : goal.put_record-requires-in-loop-k
-put_record-requires-in-loop-k c =
-    record {
-      within =
-          let keys = c.args.keys.now in
-          omega (arith, size _ keys _ _ c.loop-k.k c.loop-k.invariant.1 (omega arith) (omega arith));
-    }
-
 pub loop-k-preserved : goal.loop-k-preserved
 loop-k-preserved c =
     let inv = c.loop-k.invariant in (
       omega arith,
       one_more _ _ _ _ _ _ _ c.loop-k-test.true inv.1 c.record_of.ensures.record c.put_record-in-loop-k.ensures.put,
     )
-
-pub shape_of-out : goal.shape_of-out
-shape_of-out c =
-    let keys = c.args.keys.now in
-    omega (arith, size _ keys _ _ c.loop-k.k c.loop-k.invariant.1 (omega arith) (omega arith))
-
-pub returns : goal.returns
-returns c =
-    record {
-      written =
-          let keys = c.args.keys.now in
-          let put = front_more (front_none c.args.out.now) 0 _ refl c.put_record.ensures.put in
-          all _ keys _ _ c.loop-k.k (omega arith)
-          (front_over put _ (rw (counted _ keys c.loop-k.k (omega arith)) (omega arith)) c.loop-k.invariant.1);
-    }

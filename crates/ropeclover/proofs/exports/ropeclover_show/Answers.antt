@@ -1,5 +1,5 @@
--- `ropeclover::exports::ropeclover_show` meets its contract: where the part stands, and the length of what showing
--- returns, which is the part's. Assumes nothing.
+-- `ropeclover::exports::ropeclover_show`: where the part stands, and the length of what showing returns, which is the
+-- part's. Assumes nothing.
 use Rattle.grammar.proofs.Basics.{◌∙◌, ap, length}
 use Rattle.job.proofs.RefusedPlace.{shown_long}
 use Rattle.ropeclover.proofs.exports.ropeclover_show.Goals as goal
@@ -8,5 +8,5 @@ pub returns : goal.returns
 returns c =
     record {
       answered =
-          rw (c.write2.ensures.written, ap length c.show_refused-shown.ensures.shown ∙ shown_long _, c.shown_part-part.ensures.part);
+          rw (ap length c.show_refused-shown.ensures.shown ∙ shown_long _, c.shown_part-part.ensures.part);
     }

@@ -6,5 +6,5 @@ use Rattle.scanner.proofs.bytes.class_at.Goals as goal
 pub returns-then-at-text : goal.returns-then-at-text
 returns-then-at-text c = record { says = search (decides_here, rules) }
 
-pub returns : goal.returns
-returns c = record { says = search (none_past, rules) }
+pub returns-else-at-text : goal.returns-else-at-text
+returns-else-at-text c = record { says = search (none_past, rules) }

@@ -1,21 +1,24 @@
-use Rattle.grammar.proofs.Basics.{refl, arith}
+-- `values::first_value`: a dot ends the first number, else it is the only one. Assumes nothing.
+use Rattle.grammar.proofs.Basics.{◌≤◌, ◌+◌, ◌*◌, arith, get_or}
+use Rattle.abnf.specs.Bytes.{digit_value_lem}
 use Rattle.scanner.proofs.Numbers.{first_ends, first_on, first_small, first_alone}
 use Rattle.scanner.proofs.values.first_value.Goals as goal
 
-pub loop-at-init : goal.loop-at-init
-loop-at-init c = (omega arith, omega arith, refl)
+pub returns-then-b-eq46-clause-values : goal.returns-then-b-eq46-clause-values
+returns-then-b-eq46-clause-values c = search first_ends
 
-pub returns-then-b-eq46 : goal.returns-then-b-eq46
-returns-then-b-eq46 c = record {
-  values = search first_ends;
-  within = (omega arith, omega arith);
-}
+pub overflow_mul-value : goal.overflow_mul-value
+overflow_mul-value c =
+    let l : 16 * c.loop-at.value + digit_value_lem (get_or c.args.text.now c.loop-at.at 0) ≤ 255 = search first_small in
+    omega arith
+
+pub overflow_add-value : goal.overflow_add-value
+overflow_add-value c =
+    let l : 16 * c.loop-at.value + c.digit_value.result ≤ 255 = search first_small in
+    omega arith
 
 pub loop-at-preserved : goal.loop-at-preserved
-loop-at-preserved c = (omega arith, search first_small, search first_on)
+loop-at-preserved c = search first_on
 
-pub returns : goal.returns
-returns c = record {
-  values = search first_alone;
-  within = (omega arith, omega arith);
-}
+pub returns-clause-values : goal.returns-clause-values
+returns-clause-values c = search first_alone

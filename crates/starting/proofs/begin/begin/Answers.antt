@@ -2,8 +2,9 @@
 -- place has both bits. Assumes nothing.
 use Rattle.grammar.proofs.Basics.{◌≡◌, ◌∙◌, ap, ap₂, false, List, ℕ, ◌<◌, arith, length, get_or}
 use Rattle.job.specs.Written.{cleared}
-use Rattle.job.specs.Job.{Job}
-use Rattle.job.proofs.Keys.{keys_long, keys_lent, rules_lent}
+use Rattle.job.specs.Job.{Job, job_of}
+use Rattle.job.specs.Inside.Keys.{rules_of_keys}
+use Rattle.job.proofs.Keys.{job_keys, job_rules}
 use Rattle.job.proofs.Clearing.{cleared_length, cleared_past}
 use Rattle.machine.specs.Table.{lent_of}
 use Rattle.machine.specs.Start.{started}
@@ -30,20 +31,14 @@ begun_bits J bits rs bits' rs' kept below e =
     (λ p l. kept.both p l ∙ cleared_none_both bits p l))
     (ap (λ m. m.reasons) e)
 
-pub give_all-requires : goal.give_all-requires
-give_all-requires c = record {
-  long = (omega arith, omega arith);
-  fit = (records_fit _ c.requires.able.2, rw c.clear_front.ensures.cleared (cleared_none_done c.args.bits.now));
-}
-
-pub slice_bounds-loop_rules-end : goal.slice_bounds-loop_rules-end
-slice_bounds-loop_rules-end c =
-    keys_long c.requires.able.2 _ _ c.sorted_rules-n.ensures.count c.sorted_rules-n.ensures.sorted
+pub give_all-requires-clause-fit : goal.give_all-requires-clause-fit
+give_all-requires-clause-fit c =
+    (records_fit _ c.requires.able.2, rw c.clear_front.ensures.cleared (cleared_none_done c.args.bits.now))
 
 pub loop_rules-requires : goal.loop_rules-requires
 loop_rules-requires c = let ok = c.requires.able.2 in record {
   long = (omega arith, omega arith, few_states _ ok _ c.state_count-states.ensures.states);
-  rules = keys_lent ok _ _ c.sorted_rules-n.ensures.count c.sorted_rules-n.ensures.sorted;
+  rules = rw c.as_slice.ensures (job_keys ok c.sorted_rules-keys.ensures.sorted);
 }
 
 pub returns : goal.returns
@@ -51,12 +46,14 @@ returns c = let ok = c.requires.able.2 in
     let given = c.give_all.ensures in
     let looped = c.loop_rules.ensures in
     let clear = c.clear_front.ensures.cleared in
+    let rules : rules_of_keys c.as_slice.result.now ≡ (job_of c.args.job.now).rules =
+    rw c.as_slice.ensures (job_rules ok c.sorted_rules-keys.ensures.sorted) in
     let counted = c.state_count-states.ensures.states in record {
       states = states_counted _ ok _ counted;
       written = begun_bits _ _ _ _ _ (rw clear at (kept_then _ _ _ given.kept looped.kept))
           (λ i h. omega (arith, c.slice_known-7-1.given i))
           (begun _ ok _ counted
-          (rules_lent ok _ _ c.sorted_rules-n.ensures.count c.sorted_rules-n.ensures.sorted) _ _ _ _ _ _
+          rules _ _ _ _ _ _
           (omega (arith, bytes_length c.args.bits.now)) c.requires.able.1 (ap table_of_bits clear ∙ cleared_bytes _)
           c.clear_reasons.ensures.cleared given.given looped.looped);
     }

@@ -1,6 +1,5 @@
 -- `begin::give_all` meets its contract. The loop's invariant: what the records passed so far gave, and what the others
 -- are still to give, is what all give, and no place is done. Assumes nothing.
-use Rattle.grammar.proofs.Basics.{◌≡◌, ◌-◌, length}
 use Rattle.job.specs.Format.{records_of}
 use Rattle.machine.specs.Table.{lent_of}
 use Rattle.machine.proofs.Starts.StartWalk.{Walked}
@@ -11,10 +10,6 @@ use Rattle.starting.proofs.begin.give_all.Given as goal
 
 abbrev pub invariant-loop-i : goal.invariant-loop-i
 invariant-loop-i l =
-    (l.count ≡ length (records_of l.job))
-    × Walked giving_from (records_of l.job) (lent_of (table_of_bits l.initial.bits) l.initial.reasons)
+    Walked giving_from (records_of l.job) (lent_of (table_of_bits l.initial.bits) l.initial.reasons)
     (lent_of (table_of_bits l.bits) l.reasons) l.i
     × Kept l.initial.bits l.bits × NoneDone l.bits
-
-abbrev pub decreases-loop-i : goal.decreases-loop-i
-decreases-loop-i l = l.count - l.i

@@ -1,24 +1,14 @@
 use Rattle.grammar.proofs.Basics.{arith, rules}
-use Rattle.machine.proofs.Starts.Looping.{loop-place, no_loop, looped_begins, looped_goes_on, looped_ends}
+use Rattle.machine.proofs.Starts.Looping.{no_loop, looped_begins, looped_goes_on, looped_ends}
 use Rattle.bit_machine.proofs.ByteTables.{bytes_as_long}
 use Rattle.bit_machine.proofs.Keeping.{kept_same, kept_then}
 use Rattle.starting.proofs.begin.loop_all.Goals as goal
 
-pub returns-then-rule-ne69 : goal.returns-then-rule-ne69
-returns-then-rule-ne69 c = search (no_loop, kept_same, rules)
+pub returns-in_default : goal.returns-in_default
+returns-in_default c = search (no_loop, kept_same, rules)
 
 pub loop-q-init : goal.loop-q-init
 loop-q-init c = (looped_begins _ _ _ _, kept_same _)
-
-pub reason_place-requires : goal.reason_place-requires
-reason_place-requires c = record { variable = search (loop-place, rules) }
-
-pub offer-requires : goal.offer-requires
-offer-requires c = record {
-  long = (omega (arith, c.loop-q.invariant.1.long), omega arith);
-  variable = search (loop-place, rules);
-  beside = search rules;
-}
 
 pub loop-q-preserved : goal.loop-q-preserved
 loop-q-preserved c =
@@ -27,8 +17,7 @@ loop-q-preserved c =
       kept_then _ _ _ c.loop-q.invariant.1 w.kept,
     )
 
-pub returns : goal.returns
-returns c = let (looped, kept) = c.loop-q.invariant in record {
-  looped = looped_ends _ _ _ _ _ c.unpack-rule.ensures.rule _ _ c.if-rule-ne69.false (omega arith) looped;
-  kept = kept;
-}
+pub returns-clause-looped : goal.returns-clause-looped
+returns-clause-looped c =
+    looped_ends _ _ _ _ _ c.unpack-rule.ensures.rule _ _ c.in-Empty.is (omega arith)
+    (rw c.from.ensures at c.loop-q.invariant.0)

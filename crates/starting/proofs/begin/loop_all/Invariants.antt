@@ -1,6 +1,5 @@
 -- `begin::loop_all` meets its contract. The loop's invariant: the ε transitions at the states passed so far are
 -- written. Assumes nothing.
-use Rattle.grammar.proofs.Basics.{◌-◌}
 use Rattle.machine.specs.Table.{lent_of}
 use Rattle.machine.proofs.Starts.Looping.{Looped}
 use Rattle.bit_machine.specs.BitTable.{table_of_bits}
@@ -12,6 +11,3 @@ invariant-loop-q l =
     Looped l.states l.variable l.reason (lent_of (table_of_bits l.initial.bits) l.initial.reasons)
     (lent_of (table_of_bits l.bits) l.reasons) l.q
     × Kept l.initial.bits l.bits
-
-abbrev pub decreases-loop-q : goal.decreases-loop-q
-decreases-loop-q l = l.states - l.q

@@ -1,6 +1,5 @@
 -- `begin::loop_rules` meets its contract. The loop's invariant: what the rules passed so far wrote, and what the
 -- others are still to write, is what all write. Assumes nothing.
-use Rattle.grammar.proofs.Basics.{◌-◌, length}
 use Rattle.job.specs.Inside.Keys.{rules_of_keys}
 use Rattle.machine.specs.Table.{lent_of}
 use Rattle.machine.specs.Inside.StartParts.{looping_all}
@@ -14,6 +13,3 @@ invariant-loop-k l =
     Walked (looping_all l.states) (rules_of_keys l.keys) (lent_of (table_of_bits l.initial.bits) l.initial.reasons)
     (lent_of (table_of_bits l.bits) l.reasons) l.k
     × Kept l.initial.bits l.bits
-
-abbrev pub decreases-loop-k : goal.decreases-loop-k
-decreases-loop-k l = length l.keys - l.k

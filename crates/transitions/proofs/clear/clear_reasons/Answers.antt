@@ -1,15 +1,22 @@
-use Rattle.grammar.proofs.Basics.{◌≡◌, refl, add-one, arith, length-set}
+-- `clear_reasons` fills the front with zeros. Assumes nothing.
+use Rattle.grammar.proofs.Basics.{◌≡◌, refl, ap, List, [], ◌∷◌, ◌++◌, ℕ, suc, zero, ◌≤◌, arith, length, take, drop, replicate}
+use Rattle.grammar.proofs.Basics.{length-take}
 use Rattle.job.specs.Written.{written, cleared}
-use Rattle.job.proofs.Clearing.{cleared_more}
 use Rattle.transitions.proofs.clear.clear_reasons.Goals as goal
 
-pub loop-i-init : goal.loop-i-init
-unfolding cleared written
-loop-i-init c = (omega arith, refl, refl)
+-- zeros and what stands behind them
+zeros_and_rest : (i n : ℕ) (xs : List ℕ) → n ≤ length xs → replicate n 0 ++ drop n xs ≡ written (λ j. 0) i n xs
+unfolding written
+zeros_and_rest i zero xs h = refl
+zeros_and_rest i (suc n) [] h = absurd (omega arith)
+zeros_and_rest i (suc n) (x ∷ xs) h = ap (λ l. 0 ∷ l) (zeros_and_rest (suc i) n xs (omega arith))
 
-pub loop-i-preserved : goal.loop-i-preserved
-loop-i-preserved c = let l = c.loop-i in
-    (omega arith, simp length-set l.invariant.1, rw (l.invariant.2, add-one) (cleared_more l.i _ (omega arith)))
+filled_front : (n : ℕ) (xs front : List ℕ) → n ≤ length xs → front ≡ replicate (length (take n xs)) 0 →
+    front ++ drop n xs ≡ cleared n xs
+unfolding cleared
+filled_front n xs front h e =
+    let long : length (take n xs) ≡ n = simp length-take (omega arith) in
+    rw (e, long) (zeros_and_rest 0 n xs h)
 
 pub returns : goal.returns
-returns c = record { cleared = let e : c.loop-i.i ≡ 32768 = omega arith in rw e at c.loop-i.invariant.2 }
+returns c = record { cleared = filled_front 32768 _ _ c.requires.long (c.fill.ensures.after (λ y e. e)) }

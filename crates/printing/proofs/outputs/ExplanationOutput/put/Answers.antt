@@ -1,0 +1,17 @@
+-- `Explanation::put`: the line of a refusal, or the answer, the count and the records. Assumes nothing.
+use borrow.Author.Tests.{eq-eqb, ne_eqb}
+use Rattle.printing.specs.Outputs.{explain_output_lem}
+use Rattle.spelling.proofs.Placing.{then, exact}
+use Rattle.printing.proofs.outputs.ExplanationOutput.put.Goals as goal
+
+pub returns-then-self-ne0 : goal.returns-then-self-ne0
+unfolding explain_output_lem
+returns-then-self-ne0 c =
+    record { placed = rw (ne_eqb _ 0 c.if-self-ne0.true) (exact c.refused_line.ensures.placed) }
+
+pub returns : goal.returns
+unfolding explain_output_lem
+returns c = record {
+  placed = rw (eq-eqb _ 0 c.if-self-ne0.false)
+      (exact (then (then c.answer_line.ensures.placed c.number_line.ensures.placed) c.record_lines.ensures.placed));
+}
