@@ -100,7 +100,7 @@ fn mark_of(r: JobRecord) -> usize
 }
 
 // Refusals 3 to 9 on the records of a job of whole records. A record that may have been met, as its mark is set, is
-// searched for among those before it; the others are met for the first time.
+// compared with all before it; at a match the search stops at once, out of both walks.
 pub fn check_records(job: &[u8], limits: Limits, needed: bool) -> Checked
     requires whole { (length job.now ≤ 16384) × (length job.now % 4 ≡ 0) }
     ensures checked { checked_of result ≡ or_else (first_fault (job_format field_classes limits) [] (records_of job.now))
@@ -113,14 +113,19 @@ pub fn check_records(job: &[u8], limits: Limits, needed: bool) -> Checked
         initials: 0,
     };
     let mut marks = [false; MARKS];
-    for i in 0..count {
+    let mut repeated = None;
+    'walk: for i in 0..count {
         let r = format::record_at(job, i);
         if let Err(cause) = form_fault(r) {
             return Err(refuse(cause, i, r));
         }
         let mark = mark_of(r);
-        if marks[mark] && format::is_among(job, i, r) {
-            return Err(refuse(Cause::Repeated, i, r));
+        let met = if marks[mark] { i } else { 0 };
+        for j in 0..met {
+            if format::alike(job, j, r) {
+                repeated = Some(refuse(Cause::Repeated, i, r));
+                break 'walk;
+            }
         }
         if let Err(cause) = order_fault(limits, seen, r) {
             return Err(refuse(cause, i, r));
@@ -128,7 +133,10 @@ pub fn check_records(job: &[u8], limits: Limits, needed: bool) -> Checked
         seen = count_in(seen, r);
         marks[mark] = true;
     }
-    missing_kind(seen, needed, count)
+    match repeated {
+        Some(refusal) => Err(refusal),
+        None => missing_kind(seen, needed, count),
+    }
 }
 
 // Refusals 2 and 1 of n bytes, by the most bytes and the bytes of a record.

@@ -83,12 +83,13 @@ pub fn record_at(job: &[u8], i: usize) -> JobRecord
     }
 }
 
-// Whether record i of a job is the four bytes of r.
+// Whether record i of a job is the four bytes of r. Field 2 takes the most values, so it is compared first.
 pub fn alike(job: &[u8], i: usize, r: JobRecord) -> bool
     requires within { 4 * i + 4 ≤ length job.now }
     ensures says { result ≡ same (get_or (records_of job.now) i no_record) r }
 {
-    record_at(job, i) == r
+    let s = record_at(job, i);
+    s.second == r.second && s.third == r.third && s.first == r.first && s.kind == r.kind
 }
 
 // Whether a record stands among the first n of a job.
