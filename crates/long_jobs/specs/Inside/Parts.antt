@@ -1,5 +1,5 @@
 -- What single functions of the conversion take and give. Assumes nothing.
-use Rattle.std.specs.Prelude.{◌≡◌, cond, ◌&&◌, List, [], ◌∷◌, ℕ, ◌+◌, ◌*◌, ◌≤◌, eqb, leb, length, get_or, take}
+use Rattle.std.specs.Prelude.{◌≡◌, cond, ◌&&◌, List, [], ◌∷◌, ℕ, ◌+◌, ◌*◌, ◌<◌, ◌≤◌, eqb, leb, length, get_or, take}
 use Rattle.std.specs.Prelude.{Result, IfOk}
 use Rattle.job.specs.declared.Refusal.{Refusal}
 use Rattle.job.specs.declared.JobRecord.{JobRecord}
@@ -16,6 +16,10 @@ use Rattle.long_jobs.specs.Dialect.{short_of}
 use Rattle.long_jobs.specs.Check.{form_fault_lem}
 use Rattle.long_jobs.specs.Convert.{Conversion}
 use Rattle.long_jobs.specs.Walk.{convert_fault, walked}
+
+-- no record is refused by itself
+abbrev pub AllFormed : List (List ℕ) → Type 0
+AllFormed rs = (i : ℕ) → i < length rs → form_fault_lem (get_or rs i []) ≡ 0
 
 -- refusals 3, 4, 15 and 6 of a record after those counted, 0 if none
 unfoldable pub fault_after : Tally → List ℕ → ℕ
