@@ -1,32 +1,21 @@
 // Showing the refused record.
-ghost use Rattle.std.specs.Prelude.{◌≡◌, ◌&&◌, ◌<◌, ◌≤◌, leb};
-ghost use Rattle.job.specs.Refusals.{number_of, checked_of};
+ghost use Rattle.std.specs.Prelude.{◌≡◌, ◌<◌, ◌≤◌};
+ghost use Rattle.job.specs.Records.{refused};
 ghost use Rattle.job.specs.Show.{part_of_lem, shown_part_lem, shown_of};
 
 use crate::call;
-use job::{Cause, Checked, Level, Part};
+use job::{Level, Part};
 
-// Whether a cause is that of one record, 3 to 7.
-fn is_of_a_record(cause: Cause) -> bool
-    ensures says { result ≡ (leb 3 (number_of cause) && leb (number_of cause) 7) }
-{
-    match cause {
-        Cause::UnknownKind | Cause::FieldOutsideClass => true,
-        Cause::Repeated | Cause::Second | Cause::TooManyRules => true,
-        _ => false,
-    }
-}
-
-// The part of a job that a check's answer names: the record that is refused by 3 to 7, else the empty part.
+// The part of a job that the number and the place of a refusal name: the record that is refused by 3 to 7, else the
+// empty part.
 #[tactic(auto, unfolding(job::specs::Show::part_of_lem))]
-pub fn part_of(checked: Checked) -> Part
-    requires within { 3 ≤ (checked_of checked).number → (checked_of checked).number ≤ 7
-        → (checked_of checked).place < 4096 }
-    ensures part { result ≡ part_of_lem (checked_of checked) }
+pub fn part_of(number: usize, place: usize) -> Part
+    requires within { 3 ≤ number → number ≤ 7 → place < 4096 }
+    ensures part { result ≡ part_of_lem (refused number place) }
 {
-    match checked {
-        Err(refusal) if is_of_a_record(refusal.cause) => Part {
-            offset: 4 * refusal.place,
+    match number {
+        3..=7 => Part {
+            offset: 4 * place,
             length: 4,
         },
         _ => Part {
@@ -40,7 +29,8 @@ pub fn part_of(checked: Checked) -> Part
 pub fn shown_part(job: &[u8]) -> Part
     ensures part { result ≡ shown_part_lem job.now }
 {
-    part_of(call::job_check(job, Level::Full, false))
+    let (number, place) = job::numbers_of(call::job_check(job, Level::Full, false).err());
+    part_of(number, place)
 }
 
 // The bytes of that part.
