@@ -3,11 +3,11 @@ ghost use Rattle.std.specs.Prelude.{◌≡◌, map};
 ghost use Rattle.job.specs.Inside.Keys.{Keys, rule_from, RuleFits};
 ghost use Rattle.copies.specs.Inside.Parts.{renumbered_record, renumbered_key};
 
-use job::{Body, JobRecord, Rule, SYMBOLS};
+use job::{Body, JobRecord, RuleFields, SYMBOLS};
 use records::keys::RuleKeys;
 
 // The record of a rule under new numbers.
-fn renumber(rule: Rule, numbers: &[u8; SYMBOLS]) -> JobRecord
+fn renumber(rule: RuleFields, numbers: &[u8; SYMBOLS]) -> JobRecord
     requires rule { RuleFits rule }
     ensures record { result ≡ renumbered_record numbers.now (rule_from rule) }
 {

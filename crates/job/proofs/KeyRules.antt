@@ -6,7 +6,7 @@ use mathlib.Core.List.{map-append}
 use Rattle.grammar.specs.Rule.{Rule, head, empty, unit, pair}
 use Rattle.job.specs.declared.Body.{Body}
 use Rattle.job.specs.declared.Body.TheVariants.{Empty, Unit, Pair}
-use Rattle.job.specs.declared.Rule as declared
+use Rattle.job.specs.declared.RuleFields as declared
 use Rattle.job.specs.Format.{byte_e, byte_u}
 use Rattle.job.specs.Inside.Keys.{key_kind, key_body, unpacked, rule_of_key, KeyFits, rules_of_keys, rule_with, rule_from}
 use Rattle.job.specs.Inside.Keys.{BodyInRange, RuleFits}
@@ -55,10 +55,10 @@ with_in_range A Empty h f = h
 with_in_range A (Unit X) h f = (h, f)
 with_in_range A (Pair X Y) h f = (h, f.0, f.1)
 
-pub from_head : (r : declared.Rule) → head (rule_from r) ≡ r.head
+pub from_head : (r : declared.RuleFields) → head (rule_from r) ≡ r.head
 from_head r = with_head r.head r.body
 
-pub from_in_range : (r : declared.Rule) → RuleFits r → RuleInRange (rule_from r)
+pub from_in_range : (r : declared.RuleFields) → RuleFits r → RuleInRange (rule_from r)
 from_in_range r f = with_in_range r.head r.body f.head f.body
 
 -- the rule that was read from a key
@@ -73,7 +73,7 @@ key_body_fits k f =
     cases (eqb (key_kind k) byte_e) (λ e. rw e tt)
     (λ e. cases (eqb (key_kind k) byte_u) (λ u. rw (e, u) f.second) (λ u. rw (e, u) (f.second, f.third)))
 
-module _ {r : declared.Rule} (k : ℕ) (e : r ≡ unpacked k) where
+module _ {r : declared.RuleFields} (k : ℕ) (e : r ≡ unpacked k) where
   pub read_rule : rule_from r ≡ rule_of_key k
   read_rule = rw e (key_read k)
 

@@ -54,7 +54,7 @@ pub enum Body {
 
 // A rule as its sort key has it.
 #[derive(Clone, Copy)]
-pub struct Rule {
+pub struct RuleFields {
     pub head: u8,
     pub body: Body,
 }

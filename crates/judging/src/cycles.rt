@@ -7,7 +7,7 @@ ghost use Rattle.usefulness.specs.Inside.Flags.{Flags, flagged};
 ghost use Rattle.verdicts.specs.Verdicts.{one_each_lem, cyclic};
 ghost use Rattle.verdicts.specs.Inside.Cycles.{pair_to_lem, cycle_at_lem};
 
-use job::{Body, Rule};
+use job::{Body, RuleFields};
 use symbol_flags::set::SymbolSet;
 
 // Whether one symbol of a pair leads back, while the other leads to a terminal.
@@ -19,7 +19,7 @@ fn one_each(x: u8, y: u8, back: SymbolSet, terminal: SymbolSet) -> bool
 }
 
 // Whether a rule is such a pair rule of a head.
-fn pair_to(rule: Rule, symbol: u8, back: SymbolSet, terminal: SymbolSet) -> bool
+fn pair_to(rule: RuleFields, symbol: u8, back: SymbolSet, terminal: SymbolSet) -> bool
     requires rule { RuleFits rule }
     ensures says { result ≡ pair_to_lem symbol (flagged back.word) (flagged terminal.word)
         (rule_from rule) }

@@ -7,13 +7,13 @@ ghost use Rattle.usefulness.specs.Inside.Flags.{Flags, flagged};
 ghost use Rattle.usefulness.specs.Inside.Passes.{in_place};
 
 use crate::set::SymbolSet;
-use job::Rule;
+use job::RuleFields;
 use usefulness::Direction;
 
 // Whether a rule adds to the set.
 // Kept (7): what may not change: `ready`, `added`, `round` and `grown` of usefulness/specs take the direction as a value,
 // so that a closure for each step would need a law that names its direction all the same.
-fn is_ready(set: SymbolSet, rule: Rule, direction: Direction) -> bool
+fn is_ready(set: SymbolSet, rule: RuleFields, direction: Direction) -> bool
     requires rule { RuleFits rule }
     ensures says { result ≡ ready direction (flagged set.word) (rule_from rule) }
 {
@@ -25,7 +25,7 @@ fn is_ready(set: SymbolSet, rule: Rule, direction: Direction) -> bool
 }
 
 // The set with what a rule adds.
-fn with_added(set: SymbolSet, rule: Rule, direction: Direction) -> SymbolSet
+fn with_added(set: SymbolSet, rule: RuleFields, direction: Direction) -> SymbolSet
     requires rule { RuleFits rule }
     ensures flags { (s : ℕ → Bool) → Flags s set.word →
         Flags (λ X. s X || stands_in X (added direction (rule_from rule))) result.word }
@@ -37,7 +37,7 @@ fn with_added(set: SymbolSet, rule: Rule, direction: Direction) -> SymbolSet
 }
 
 // One rule.
-fn add(set: SymbolSet, rule: Rule, direction: Direction) -> SymbolSet
+fn add(set: SymbolSet, rule: RuleFields, direction: Direction) -> SymbolSet
     requires rule { RuleFits rule }
     ensures flags { (s : ℕ → Bool) → Flags s set.word →
         Flags (round direction (rule_from rule ∷ []) s) result.word }

@@ -6,7 +6,7 @@ ghost use Rattle.job.specs.Inside.Keys.{rule_from, RuleFits};
 ghost use Rattle.usefulness.specs.Sets.{all_in_lem, any_in, stands_in, rule_in};
 ghost use Rattle.usefulness.specs.Inside.Flags.{Flags, flagged};
 
-use job::{Body, Rule};
+use job::{Body, RuleFields};
 
 // The bits of the terminals, 32 to 63.
 const TERMINALS: u64 = 0xffff_ffff_0000_0000;
@@ -62,7 +62,7 @@ impl SymbolSet {
     }
 
     // The set with the symbols of a rule's body.
-    pub fn with_body(self, rule: Rule) -> Self
+    pub fn with_body(self, rule: RuleFields) -> Self
         requires rule { RuleFits rule }
         ensures flags { (set : ℕ → Bool) → Flags set self.word →
             Flags (λ X. set X || stands_in X (body (rule_from rule))) result.word }
@@ -75,7 +75,7 @@ impl SymbolSet {
     }
 
     // Whether it has each symbol of a rule's body.
-    pub fn has_body(self, rule: Rule) -> bool
+    pub fn has_body(self, rule: RuleFields) -> bool
         requires rule { RuleFits rule }
         ensures says { result ≡ all_in_lem (flagged self.word) (body (rule_from rule)) }
     {
@@ -87,7 +87,7 @@ impl SymbolSet {
     }
 
     // Whether it has some symbol of a rule's body.
-    pub fn meets_body(self, rule: Rule) -> bool
+    pub fn meets_body(self, rule: RuleFields) -> bool
         requires rule { RuleFits rule }
         ensures says { result ≡ any_in (flagged self.word) (body (rule_from rule)) }
     {
@@ -99,7 +99,7 @@ impl SymbolSet {
     }
 
     // Whether it has all symbols of a rule.
-    pub fn has_rule(self, rule: Rule) -> bool
+    pub fn has_rule(self, rule: RuleFields) -> bool
         requires rule { RuleFits rule }
         ensures says { result ≡ rule_in (flagged self.word) (rule_from rule) }
     {

@@ -4,7 +4,7 @@ use Rattle.grammar.proofs.Basics.{◌≡◌, refl, true, false, Bool, ◌&&◌, 
 use Rattle.grammar.proofs.Basics.{arith}
 use Rattle.grammar.specs.Rule.{Rule, head, body, empty, unit, pair}
 use Rattle.grammar.proofs.Strings.{All, nil, cons}
-use Rattle.job.specs.declared.Rule as declared
+use Rattle.job.specs.declared.RuleFields as declared
 use Rattle.job.specs.Inside.Keys.{Keys, rules_of_keys, rule_from, RuleFits}
 use Rattle.job.specs.Theorems.InRange.{RuleInRange, RulesInRange}
 use Rattle.job.proofs.KeyRules.{keys_in_range, from_in_range}
@@ -23,7 +23,7 @@ range_below r ρ m = rule_below ρ (r ρ m)
 pub keys_below : {keys : List ℕ} → Keys keys → Below 64 (rules_of_keys keys)
 keys_below {keys} ks = range_below (keys_in_range keys ks.fit)
 
-pub from_below : (r : declared.Rule) → RuleFits r → All (λ X. X < 64) (head (rule_from r) ∷ body (rule_from r))
+pub from_below : (r : declared.RuleFields) → RuleFits r → All (λ X. X < 64) (head (rule_from r) ∷ body (rule_from r))
 from_below r f = rule_below (rule_from r) (from_in_range r f)
 
 -- the tests of bodies of no, one and two symbols

@@ -5,7 +5,7 @@ use Rattle.grammar.proofs.Basics.{length, get_or, length-map, List·getD-map}
 use Rattle.job.specs.Inside.Keys.{KeyFits, unpacked, rule_of_key, rules_of_keys, rule_with}
 use Rattle.job.specs.declared.Body.{Body}
 use Rattle.job.specs.declared.Body.TheVariants.{Empty, Unit, Pair}
-use Rattle.job.specs.declared.Rule as declared
+use Rattle.job.specs.declared.RuleFields as declared
 use Rattle.job.proofs.KeyRules.{read_body, read_fits}
 use Rattle.machine.specs.Table.{Lent, lent_of, table_place, reason_of}
 use Rattle.machine.specs.Inside.Offers.{VariablePlace, offer_to, add_offer}
@@ -20,8 +20,8 @@ pub record Looped (states A reason : ℕ) (m m' : Lent) (q : ℕ) : Type 0 where
   pub long : AsLong m m'
   pub so_far : m' ≡ looping_below A reason q m
 
-pub loop-place : (states key q : ℕ) (ρ : declared.Rule) → ρ ≡ unpacked key → KeyFits key → states ≤ 32 → q < states →
-    VariablePlace (table_place q ρ.head q)
+pub loop-place : (states key q : ℕ) (ρ : declared.RuleFields) → ρ ≡ unpacked key → KeyFits key → states ≤ 32
+    → q < states → VariablePlace (table_place q ρ.head q)
 loop-place states key q ρ unpack fits few h =
     variable_place q ρ.head q (omega arith) (read_fits key unpack fits).head (omega arith)
 
@@ -41,7 +41,7 @@ looped_goes_on states A reason m m' q t t' h e l l' so =
       so_far = rw add-one (e ∙ ap (add_offer (offer_to q A q reason)) so.so_far);
     }
 
-module _ (states rank key : ℕ) (m : Lent) (ρ : declared.Rule) (unpack : ρ ≡ unpacked key) where
+module _ (states rank key : ℕ) (m : Lent) (ρ : declared.RuleFields) (unpack : ρ ≡ unpacked key) where
   pub no_loop : (ρ.body ≡ Empty → ⊥) → m ≡ looping_rule states rank (rule_of_key key) m
   no_loop d = no_loop_at ρ.body d ∙ sym (ap (λ r. looping_rule states rank r m) (read_body key unpack refl))
     where

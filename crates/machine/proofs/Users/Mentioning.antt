@@ -9,7 +9,7 @@ use Rattle.job.proofs.KeyRules.{rules_more, read_body}
 use Rattle.machine.specs.Inside.Users.{mentions, mentioning, UsersListed, UsersRoom, Appended}
 use Rattle.machine.proofs.Users.Appending.{append_none, append_both, room_after, room_wider}
 use Rattle.job.specs.declared.Body.TheVariants.{Empty, Unit, Pair}
-use Rattle.job.specs.declared.Rule as declared
+use Rattle.job.specs.declared.RuleFields as declared
 
 -- the ranks of the rules that mention a symbol, with one rule more
 mentioning_end : (X rank : ℕ) (ρs : List Rule) (ρ : Rule) →
@@ -58,7 +58,7 @@ or_same false = refl
 
 -- what is appended for the rule of an unpacked key: nothing for an E rule, one rank for a U rule and for a P rule of
 -- twice the same symbol, else two
-module _ (k rank : ℕ) {users used : List ℕ} {ρ : declared.Rule} (unpack : ρ ≡ unpacked k) where
+module _ (k rank : ℕ) {users used : List ℕ} {ρ : declared.RuleFields} (unpack : ρ ≡ unpacked k) where
   pub none_appended : ρ.body ≡ Empty → Appended (λ X. mentions X (rule_of_key k)) rank users used users used
   none_appended e = rw (read_body k unpack e) append_none
 
