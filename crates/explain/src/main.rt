@@ -3,8 +3,10 @@
 // records, and a line for each: the transition and why it is there; or the line 'refused N at P'.
 #![tactic(auto)]
 
-ghost use Rattle.std.specs.Prelude.{◌≤◌, length, IfSome};
+ghost use Rattle.std.specs.Prelude.{◌≡◌, ◌≤◌, length, IfSome};
+ghost use Rattle.forms.specs.Answers.{explained_of};
 
+use job::Refusal;
 use std::env::Env;
 
 // One byte more than a job may have, so that longer input is refused as too long.
@@ -51,21 +53,26 @@ fn read_form(rt: &impl Env, form: &mut [u8], count: usize) -> Option<()>
     Some(())
 }
 
+// What an explanation answers, as it is printed: a refusal's number and place, whether the form is accepted, and the
+// number of records.
+fn explained_numbers(explained: Result<Option<usize>, Refusal>) -> (usize, usize, bool, usize)
+    ensures numbers { record { number = result.0; place = result.1; accepted = result.2; records = result.3 }
+        ≡ explained_of explained }
+{
+    let (number, place) = job::numbers_of(explained.err());
+    let records = explained.unwrap_or(None);
+    (number, place, records.is_some(), records.unwrap_or(0))
+}
+
 // Prints the explanation of a form, by way of a buffer for the output.
 fn print_explanation(rt: &HostRuntime, job: &[u8], form: &[u8], out: &mut [u8]) {
     let mut table = [0u8; job::TABLE_BYTES];
     let mut reasons = [0u32; job::REASON_NUMBERS];
     let mut listing = [0u8; LISTING_BYTES];
     let explained = explaining::explain(job, &mut table, &mut reasons, form, &mut listing);
-    let (number, place) = job::numbers_of(explained.err());
-    let records = explained.unwrap_or(None);
+    let (number, place, accepted, records) = explained_numbers(explained);
     let written = printing::operations::explain_output(
-        number,
-        place,
-        records.is_some(),
-        records.unwrap_or(0),
-        &listing,
-        out,
+        number, place, accepted, records, &listing, out,
     );
     console::write_output(rt, out, written.bytes);
 }
