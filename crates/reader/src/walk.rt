@@ -68,7 +68,7 @@ fn put_items(
     ensures put { ItemsPut items.now head numbers.now variables.old rules.old variables.new rules.new }
 {
     variables.take_letters(items);
-    rules.put_body(head, items, Symbols { variables, numbers });
+    rules.put_items(head, items, Symbols { variables, numbers });
     variables.take_tails(items.len());
 }
 

@@ -1,6 +1,6 @@
 // The symbols of items.
-ghost use Rattle.std.specs.Prelude.{◌≡◌};
-ghost use Rattle.text_symbols.specs.Keys.{ItemFits, symbol_by};
+ghost use Rattle.std.specs.Prelude.{◌≡◌, ◌≤◌, map, length, take};
+ghost use Rattle.text_symbols.specs.Keys.{ItemFits, ItemsFit, symbol_by};
 
 use crate::BYTES;
 use crate::items::Item;
@@ -25,6 +25,19 @@ impl Symbols<'_> {
                 u8::MAX,
             ),
             Item::Name(name) => name as u8,
+        }
+    }
+
+    // Puts the symbols of items to the front of a body.
+    pub fn put(self, items: &[u16], body: &mut [u8])
+        requires fit { ItemsFit items.now }
+        requires room { length items.now ≤ length body.old }
+        ensures size { length body.new ≡ length body.old }
+        ensures symbols { take (length items.now) body.new
+            ≡ map (symbol_by self.entry.variables.now self.entry.numbers.now) items.now }
+    {
+        for (i, item) in items.iter().enumerate() {
+            body[i] = self.of(*item);
         }
     }
 }
