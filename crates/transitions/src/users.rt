@@ -16,6 +16,7 @@ pub struct RuleIndex<'a> {
 }
 
 impl<'a> RuleIndex<'a> {
+    // Returning an index copies its 16 KB: a caller that has to save stack fills one in place, by list_rules.
     pub fn new(keys: &'a [u32]) -> RuleIndex<'a>
         requires rules { Keys keys.now }
         ensures keys { result.keys.now ≡ keys.now }
@@ -26,10 +27,21 @@ impl<'a> RuleIndex<'a> {
             users: [0; USER_RANKS],
             used: [0; SYMBOLS],
         };
-        for (k, key) in keys.iter().enumerate() {
-            index.add(*key, k as u8);
-        }
+        index.list_rules();
         index
+    }
+
+    // Fills its lists, which are empty, with the rules of its keys.
+    pub fn list_rules(&mut self)
+        requires rules { Keys self.old.keys.now }
+        requires room { UsersRoom 0 self.old.users self.old.used }
+        ensures keys { self.new.keys.now ≡ self.old.keys.now }
+        ensures indexed { UsersListed (rules_of_keys self.old.keys.now) self.new.users self.new.used }
+    {
+        let keys = self.keys;
+        for (k, key) in keys.iter().enumerate() {
+            self.add(*key, k as u8);
+        }
     }
 
     // Adds a rule, given by its sort key, to the lists of the symbols of its body.
