@@ -31,7 +31,7 @@ pub fn start(job: &[u8], table: &mut [u8], reasons: &mut [u32]) -> Result<usize,
 }
 
 // Makes at most n steps on a table, whatever it holds.
-#[tactic(auto, unfolding(machine::specs::Operations::advance_by), using(machine::proofs::MachineChecks::machine_passed, job::proofs::Refusals::is_number))]
+#[tactic(auto, unfolding(machine::specs::Operations::advance_by), using(crate::proofs::Passed::lent_long, crate::proofs::Passed::job_accepted, job::proofs::Refusals::is_number))]
 pub fn advance(job: &[u8], table: &mut [u8], reasons: &mut [u32], n: u64) -> Result<Ended, Refusal>
     ensures outcome { advance_leaves (advanced_of result) (lent_of table.new reasons.new)
         ≡ advance_of job.now (lent_of table.old reasons.old) n }
