@@ -8,6 +8,7 @@ use job::{Level, Part};
 
 // The part of a job that the number and the place of a refusal name: the record that is refused by 3 to 7, else the
 // empty part.
+// Kept (1): what may not change: it promises the empty part for numbers that are no cause, too.
 #[tactic(auto, unfolding(job::specs::Show::part_of_lem))]
 pub fn part_of(number: usize, place: usize) -> Part
     requires within { 3 ≤ number → number ≤ 7 → place < 4096 }
