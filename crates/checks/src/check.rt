@@ -9,7 +9,8 @@ ghost use Rattle.job.specs.Inside.Walk.{form_fault_lem, is_second_by, order_faul
 use job::{Cause, Checked, JOB_BYTES, JobRecord, Kind, Limits, MARKS, Refusal, Tally};
 use records::format;
 
-// 3 or 4 where the record itself is at fault.
+// 3 or 4 where the record itself is at fault. Inlined, as it is asked of each record.
+#[inline(always)]
 #[tactic(auto, unfolding(job::specs::Inside::Walk::form_fault_lem))]
 pub fn form_fault(r: JobRecord) -> Result<(), Cause>
     ensures fault { fault_number result ≡ form_fault_lem r }

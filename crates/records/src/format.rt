@@ -45,7 +45,9 @@ fn field_fits(kind: Kind, field: usize, value: u8) -> bool
     in_class(field_class(kind, field), value)
 }
 
-// Which of the three fields of a record of a kind is the first that is not of its class.
+// Which of the three fields of a record of a kind is the first that is not of its class. Inlined, so that the classes
+// of each kind are known where the kind is read.
+#[inline(always)]
 pub fn bad_field(kind: Kind, r: JobRecord) -> Option<usize>
     requires kind { row_of r.kind ≡ kind_row kind }
     ensures field { field_number result ≡ bad_field_lem field_classes r }
@@ -88,8 +90,8 @@ pub fn alike(job: &[u8], i: usize, r: JobRecord) -> bool
     requires within { 4 * i + 4 ≤ length job.now }
     ensures says { result ≡ same (get_or (records_of job.now) i no_record) r }
 {
-    let s = record_at(job, i);
-    s.second == r.second && s.third == r.third && s.first == r.first && s.kind == r.kind
+    let at = 4 * i;
+    job[at + 2] == r.second && job[at + 3] == r.third && job[at + 1] == r.first && job[at] == r.kind
 }
 
 // Whether a record stands among the first n of a job.
