@@ -34,12 +34,20 @@ pub fn shown_part(job: &[u8]) -> Part
     part_of(number, place)
 }
 
-// The bytes of that part.
-pub fn show_refused(job: &[u8]) -> &[u8]
-    ensures shown { result.now ≡ shown_of job.now }
+// That part and its bytes, by one check.
+pub fn shown(job: &[u8]) -> (Part, &[u8])
+    ensures part { result.0 ≡ shown_part_lem job.now }
+    ensures bytes { result.1.now ≡ shown_of job.now }
 {
     let part = shown_part(job);
     let from = part.offset;
     let end = from + part.length;
-    &job[from..end]
+    (part, &job[from..end])
+}
+
+// Its bytes alone.
+pub fn show_refused(job: &[u8]) -> &[u8]
+    ensures shown { result.now ≡ shown_of job.now }
+{
+    shown(job).1
 }

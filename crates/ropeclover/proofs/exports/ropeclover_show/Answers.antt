@@ -8,5 +8,5 @@ pub returns : goal.returns
 returns c =
     record {
       answered =
-          rw (ap length c.show_refused-shown.ensures.shown ∙ shown_long _, c.shown_part-part.ensures.part);
+          rw (ap length c.shown.ensures.bytes ∙ shown_long _, c.shown.ensures.part);
     }

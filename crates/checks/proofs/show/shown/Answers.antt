@@ -1,17 +1,17 @@
--- `show::show_refused` gives the bytes of the part, which stands in the job. Assumes nothing.
+-- `show::shown` gives the bytes of the part, which stands in the job. Assumes nothing.
 use Rattle.grammar.proofs.Basics.{◌≡◌, List, ℕ, ◌≤◌, ◌+◌, ◌-◌, arith, length, take, drop}
 use Rattle.job.specs.declared.Part.{Part}
 use Rattle.job.specs.Show.{shown_part_lem, shown_of}
 use Rattle.job.proofs.RefusedPlace.{part_within}
-use Rattle.checks.proofs.show.show_refused.Goals as goal
+use Rattle.checks.proofs.show.shown.Goals as goal
 
 module _ (p : Part) (job : List ℕ) (is : p ≡ shown_part_lem job) where
   stands : p.offset + p.length ≤ length job
   stands = rw is (part_within job)
 
-  shown : take (p.offset + p.length - p.offset) (drop p.offset job) ≡ shown_of job
+  bytes : take (p.offset + p.length - p.offset) (drop p.offset job) ≡ shown_of job
   unfolding shown_of
-  shown =
+  bytes =
       let long : p.offset + p.length - p.offset ≡ p.length = omega arith in
       rw (long, is)
 
@@ -23,4 +23,4 @@ slice_bounds-result-end c =
     omega (arith, stands c.shown_part-part.result c.args.job.now c.shown_part-part.ensures.part)
 
 pub returns : goal.returns
-returns c = record { shown = search shown }
+returns c = record { part = c.shown_part-part.ensures.part; bytes = search bytes }
