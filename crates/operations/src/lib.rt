@@ -24,8 +24,8 @@ pub use explaining::explain;
 pub use judging::operation::verdicts;
 
 // The four bytes of the record that the job is refused for by 3 to 7, as a part of the job; else the empty part:
-// `shown_of` (job/specs/Show).
-pub use checks::show::show_refused;
+// `shown_of` (job/specs/Show). `shown` gives those bytes with where they stand: `shown_part_lem`.
+pub use checks::show::{show_refused, shown};
 
 // Writes a long job, whose rules have bodies of up to eight symbols, as an ordinary job, and answers its number of
 // records: `binarize_of` (long_jobs/specs/Operation).

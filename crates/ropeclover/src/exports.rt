@@ -179,7 +179,7 @@ pub extern "C" fn ropeclover_verdicts(
 pub extern "C" fn ropeclover_show(job: &[u8], answer: &mut [u64; 2])
     ensures answered { answer.new ≡ show_numbers (shown_part_lem job.now) }
 {
-    let (part, shown) = checks::show::shown(job);
+    let (part, shown) = operations::shown(job);
     *answer = [part.offset as u64, shown.len() as u64];
 }
 
